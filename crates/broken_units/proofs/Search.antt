@@ -3,14 +3,14 @@ use Rattle.std.proofs.Common.{◌≡◌, ◌<◌, ◌⊎◌, ◌↔◌, inl, inr
 use Rattle.std.specs.Prelude.{Contains, count_by}
 use Rattle.std.proofs.lemmas.List.Elements.{Contains-append_left, Contains-push, Contains-push_cases}
 use Rattle.common_laws.specs.Lists.{contains-none}
-use Rattle.broken_units.specs.Leads.{IsUser, Leads, here, over}
+use Rattle.broken_units.specs.Leads.{IsUser, ReachesMarked, here, over}
 use Rattle.common_laws.specs.Graphs.{IsMarked, Needs, marked_within, needs_within}
 use Rattle.broken_units.proofs.Marked.{Marks, is_marked}
 
 -- Each marked node reaches an initially marked one. The users of a marked node are marked, or the node waits.
 pub record Search (needs : List (List ℕ)) (first led : List Bool) (waiting : List ℕ) : Type 0 where
   pub same : length led ≡ length needs
-  pub leads : (i : ℕ) → IsMarked led i → Leads needs first i
+  pub leads : (i : ℕ) → IsMarked led i → ReachesMarked needs first i
   pub begun : (i : ℕ) → IsMarked first i → IsMarked led i
   pub waits : (i : ℕ) → Contains waiting i → IsMarked led i
   pub closed : (u v : ℕ) → IsMarked led v → Needs needs u v → IsMarked led u ⊎ Contains waiting v
@@ -62,9 +62,9 @@ module _ (needs : List (List ℕ)) (first : List Bool) where
         }
 
   module _ (led : List Bool) (s : Search needs first led []) where
-    complete : (i : ℕ) → Leads needs first i → IsMarked led i
+    complete : (i : ℕ) → ReachesMarked needs first i → IsMarked led i
     complete i (here m) = s.begun i m
     complete i (over v n l) = ⊎_elim (λ h. h) (λ w. absurd (contains-none v w)) (s.closed i v (complete v l) n)
 
-    pub search_ends : (length led ≡ length needs) × ((i : ℕ) → IsMarked led i ↔ Leads needs first i)
+    pub search_ends : (length led ≡ length needs) × ((i : ℕ) → IsMarked led i ↔ ReachesMarked needs first i)
     search_ends = (s.same, λ i. ((λ h. s.leads i h), λ l. complete i l))

@@ -3,9 +3,9 @@ use Rattle.std.specs.Prelude.{◌≡◌, ◌<◌, ◌↔◌, ◌⊎◌, ℕ, Boo
 use Rattle.common_laws.specs.Graphs.{Needs, IsMarked}
 
 -- a node is marked, or a path leads from it to a marked node
-pub data Leads (needs : List (List ℕ)) (marked : List Bool) : ℕ → Type 0 where
-  here : {u : ℕ} → IsMarked marked u → Leads needs marked u
-  over : {u : ℕ} (v : ℕ) → Needs needs u v → Leads needs marked v → Leads needs marked u
+pub data ReachesMarked (needs : List (List ℕ)) (marked : List Bool) : ℕ → Type 0 where
+  here : {u : ℕ} → IsMarked marked u → ReachesMarked needs marked u
+  over : {u : ℕ} (v : ℕ) → Needs needs u v → ReachesMarked needs marked v → ReachesMarked needs marked u
 
 -- u is among the users of v
 abbrev pub IsUser : List (List ℕ) → ℕ → ℕ → Type 0

@@ -1,6 +1,6 @@
 // The nodes that reach a marked node.
 ghost use Rattle.std.specs.Prelude.{◌≡◌, ◌+◌, ◌<◌, ◌≤◌, ◌⊎◌, ◌↔◌, ℕ, [], length, true, false, not, Contains, IfOk, OnOk, count_by, slice_index_or};
-ghost use Rattle.broken_units.specs.Leads.{IsUser, Leads, MarksMore, NewlyMarkedWait};
+ghost use Rattle.broken_units.specs.Leads.{IsUser, ReachesMarked, MarksMore, NewlyMarkedWait};
 ghost use Rattle.common_laws.specs.Graphs.{IsMarked, Needs};
 
 use crate::users::users_of;
@@ -15,7 +15,7 @@ pub fn leading(
 ) -> Result<List<bool>, NoMemory>
     requires { length marked.now ≡ length needs.now }
     ensures length { IfOk result (λ led. length led ≡ length needs.now) }
-    ensures leads { IfOk result (λ led. (i : ℕ) → IsMarked led i ↔ Leads needs.now marked.now i) }
+    ensures leads { IfOk result (λ led. (i : ℕ) → IsMarked led i ↔ ReachesMarked needs.now marked.now i) }
 {
     let users = users_of(alloc, needs)?;
     let mut led = List::from_vec(marked.to_vec(alloc)?);

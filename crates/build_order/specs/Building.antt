@@ -51,8 +51,8 @@ pub record HasToWait (needs : List (List ℕ)) (node from : ℕ) (old new : Buil
       ≡ with_wait (slice_index (needs_of needs node) place) (record { node = node; place = place }) old.waiting.items
 
 -- a node becomes ready, or has to wait
-abbrev pub Settles : List (List ℕ) → ℕ → ℕ → Building → Building → Type 0
-Settles needs node from old new = BecomesReady needs node from old new ⊎ HasToWait needs node from old new
+abbrev pub WaitsOrIsReady : List (List ℕ) → ℕ → ℕ → Building → Building → Type 0
+WaitsOrIsReady needs node from old new = BecomesReady needs node from old new ⊎ HasToWait needs node from old new
 
 -- a node isn't placed, and all its needs before a place are
 pub record IsMetBefore (needs : List (List ℕ)) (order : List ℕ) (node place : ℕ) : Type 0 where

@@ -3,7 +3,7 @@
 ghost use Rattle.std.specs.Prelude.{◌≡◌, ◌<◌, ◌++◌, [], ◌∷◌, false, true, not, count_by, length, replicate, All, Contains, IfOk, OnOk, MatchOption, slice_index_or, slice_set};
 ghost use Rattle.build_order.specs.Order.{IsLeastReady};
 ghost use Rattle.common_laws.specs.Graphs.{IsGraph};
-ghost use Rattle.build_order.specs.Building.{Alone, AreMet, IsFirstUnmet, IsSound, NoNode, Settles, TakesLeast, with_wait};
+ghost use Rattle.build_order.specs.Building.{Alone, AreMet, IsFirstUnmet, IsSound, NoNode, WaitsOrIsReady, TakesLeast, with_wait};
 
 use crate::ready::{add, take_least};
 use plan_types::{List, NoMemory};
@@ -62,7 +62,7 @@ impl Building {
     {
         let mut building = Building::empty(alloc, needs.len())?;
         for node in 0..needs.len() {
-            building.settle(needs, node, 0)?;
+            building.wait_or_ready(needs, node, 0)?;
         }
         Ok(building)
     }
@@ -93,7 +93,7 @@ impl Building {
     {
         let mut waits = self.mark(alloc, node)?;
         while let Some(wait) = waits.pop() {
-            self.settle(needs, wait.node, wait.place)?;
+            self.wait_or_ready(needs, wait.node, wait.place)?;
         }
         Ok(())
     }
@@ -114,14 +114,14 @@ impl Building {
     }
 
     // A node waits for its first need from a place on that isn't placed; without one it becomes ready.
-    fn settle(&mut self, needs: &[List<usize>], node: usize, from: usize) -> Result<(), NoMemory>
+    fn wait_or_ready(&mut self, needs: &[List<usize>], node: usize, from: usize) -> Result<(), NoMemory>
         requires graph { IsGraph needs.now }
         requires node { node < length needs.now }
         requires placed { length self.old.placed ≡ length needs.now }
         requires waiting { length self.old.waiting.items ≡ length needs.now }
         ensures order { OnOk result (self.new.order ≡ self.old.order) }
         ensures placed { OnOk result (self.new.placed ≡ self.old.placed) }
-        ensures settled { OnOk result (Settles needs.now node from self.old self.new) }
+        ensures settled { OnOk result (WaitsOrIsReady needs.now node from self.old self.new) }
     {
         let list = needs[node].as_slice();
         match first_unmet(list, self.placed.as_slice(), from) {

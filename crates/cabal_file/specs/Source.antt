@@ -13,7 +13,7 @@ use Rattle.cabal_lexer.specs.Fault.{IsTree, IsFault}
 use Rattle.description.specs.Description.{Describes}
 use Rattle.description.specs.FaultOrder.{is_at}
 use Rattle.description.specs.declared.fault_order.At.{At}
-use Rattle.flatten.specs.Demands.{demands_of, first_beyond}
+use Rattle.flatten.specs.Demands.{demands_of, first_with_too_many_paths}
 use Rattle.flatten.specs.Exposure.{exposed}
 use Rattle.cabal_file.specs.declared.source.Source.{Source}
 
@@ -33,25 +33,25 @@ unless_beyond (Some line) source = Err (is_at line TooManyPaths)
 -- the outcome of a description as a source
 abbrev pub OfDescription : Env → Result Description At → Result Source At → Type 0
 OfDescription env (Err at) outcome = outcome ≡ Err at
-OfDescription env (Ok d) outcome = outcome ≡ unless_beyond (first_beyond env d) (source_of env d)
+OfDescription env (Ok d) outcome = outcome ≡ unless_beyond (first_with_too_many_paths env d) (source_of env d)
 
 -- the outcome of a file's elements
 abbrev pub OfTree : Env → List Element → List ℕ → Result Source At → Type 0
 OfTree env items digest outcome = (described : Result Description At) × Describes items digest described × OfDescription env described outcome
 
 -- the outcome is a fault of the layout
-pub record IsMisfit (bytes : List ℕ) (outcome : Result Source At) : Type 0 where
+pub record HasLayoutFault (bytes : List ℕ) (outcome : Result Source At) : Type 0 where
   pub line : ℕ
   pub cause : Cause
   pub fault : IsFault bytes line cause
   pub outcome_is : outcome ≡ Err (is_at line cause)
 
 -- the outcome is that of the file's elements
-pub record IsLaidOut (env : Env) (bytes : List ℕ) (outcome : Result Source At) : Type 0 where
+pub record HasTree (env : Env) (bytes : List ℕ) (outcome : Result Source At) : Type 0 where
   pub items : List Element
   pub tree : IsTree bytes items
   pub comes : OfTree env items (digest_of bytes) outcome
 
 -- the outcome of a file's bytes: its source or its first fault
 abbrev pub IsSource : Env → List ℕ → Result Source At → Type 0
-IsSource env bytes outcome = IsMisfit bytes outcome ⊎ IsLaidOut env bytes outcome
+IsSource env bytes outcome = HasLayoutFault bytes outcome ⊎ HasTree env bytes outcome

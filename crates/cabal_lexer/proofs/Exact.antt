@@ -15,7 +15,7 @@ use Rattle.plan_types.specs.declared.refusal.Cause.TheVariants.{UnclosedBrace, T
 use Rattle.cabal_lexer.specs.Lines.{Line, kept_lines}
 use Rattle.cabal_lexer.specs.Opening.{Opening, opening, within, cause_of}
 use Rattle.cabal_lexer.specs.Layout.{Ends, Stands, Fails, Cut, At}
-use Rattle.cabal_lexer.specs.Fault.{StandsFor, Sound, FirstFault, IsTree, IsFault}
+use Rattle.cabal_lexer.specs.Fault.{StandsFor, Viable, FirstFault, IsTree, IsFault}
 use Rattle.plan_types.specs.Refusal.{RefusesAt}
 use Rattle.cabal_lexer.specs.Fault as fault
 use Rattle.cabal_lexer.proofs.Reading.{Outcome, done, stands_read, fails_read}
@@ -45,7 +45,7 @@ one_failure lines f g =
 
 -- ---- soundness
 
-pub sound_whole : (lines : List Line) {items : List Element} → StandsFor lines items → Sound lines
+pub sound_whole : (lines : List Line) {items : List Element} → StandsFor lines items → Viable lines
 sound_whole lines {items} s = record { closers = []; close = refl; items = items; stands = subst (λ v. StandsFor v items) (sym (append-nil lines)) s }
 
 -- nothing ends a whole text
@@ -58,20 +58,20 @@ pub whole_cut : {lines rest : List Line} {items : List Element} → Cut 0 1 fals
 whole_cut {lines} {rest} {items} c =
     subst (λ v. StandsFor v items) (sym (c.whole ∙ ap (λ v. c.front ++ v) (no_end rest c.ended) ∙ append-nil c.front)) c.stands
 
-sound_closing : (front whole : List Line) → Closing 0 1 false front whole → Sound front
+sound_closing : (front whole : List Line) → Closing 0 1 false front whole → Viable front
 sound_closing front whole c = record { closers = c.closers; close = c.close; items = c.items; stands = c.stands }
 
 -- sound lines have no misfit
-misfits_unsound : {lines : List Line} {at : Line} {cause : Cause} (m : Misfits 0 1 false lines at cause) (more : List Line) → Sound (m.front ++ at ∷ more) → ⊥
+misfits_unsound : {lines : List Line} {at : Line} {cause : Cause} (m : Misfits 0 1 false lines at cause) (more : List Line) → Viable (m.front ++ at ∷ more) → ⊥
 misfits_unsound {lines} {at} m more s =
     stands_or_fails (m.front ++ at ∷ (more ++ s.closers)) (subst (λ v. StandsFor v s.items) (append_assoc m.front (at ∷ more) s.closers) s.stands) (m.again (more ++ s.closers))
 
-pub sound_front : (front others : List Line) → Sound (front ++ others) → Sound front
+pub sound_front : (front others : List Line) → Viable (front ++ others) → Viable front
 sound_front front others s = elim (judge (suc (length front)) 0 1 false front (omega arith)) [
   | stands_cut c ↦ sound_whole front (whole_cut c)
   | fails_at {at = at} f ↦ elim (split f) [
     | misfits m ↦ absurd (misfits_unsound m (m.rest ++ others)
-        (subst Sound (ap (λ v. v ++ others) m.whole ∙ append_assoc m.front (at ∷ m.rest) others) s))
+        (subst Viable (ap (λ v. v ++ others) m.whole ∙ append_assoc m.front (at ∷ m.rest) others) s))
     | left_open is c ↦ sound_closing front front c
   ]
 ]
@@ -91,7 +91,7 @@ first_fault {lines} {at} {cause} f = elim (split f) [
   | misfits m ↦
       subst (λ v. FirstFault v at.number cause) (sym m.whole)
       (subst (λ v. FirstFault (m.front ++ at ∷ m.rest) at.number v) (sym (cause-within m.inner (opening at.text) cause m.because))
-      (fault.misfit m.front at m.rest (λ shorter others w. sound_front shorter others (subst Sound w (sound_closing m.front _ m.closing))) (misfits_unsound m [])))
+      (fault.misfit m.front at m.rest (λ shorter others w. sound_front shorter others (subst Viable w (sound_closing m.front _ m.closing))) (misfits_unsound m [])))
   | left_open is c ↦
       subst (λ v. FirstFault lines at.number v) (sym is)
       (fault.unclosed lines at (sound_closing lines lines c) (λ items s. stands_or_fails lines s f) (subst (λ v. Fails 0 1 false lines at v) is f))
@@ -99,7 +99,7 @@ first_fault {lines} {at} {cause} f = elim (split f) [
 
 pub never_both : {lines : List Line} {items : List Element} {line : ℕ} {cause : Cause} → StandsFor lines items → FirstFault lines line cause → ⊥
 never_both s (fault.misfit front line rest before not_sound) =
-    not_sound (sound_front (front ++ line ∷ []) rest (subst Sound (sym (append_assoc front (line ∷ []) rest)) (sound_whole _ s)))
+    not_sound (sound_front (front ++ line ∷ []) rest (subst Viable (sym (append_assoc front (line ∷ []) rest)) (sound_whole _ s)))
 never_both s (fault.unclosed lines line sound none fails) = none _ s
 
 -- two prefixes of one list: equal, or one inside the other
@@ -119,8 +119,8 @@ parts (z ∷ front) (w ∷ other) x y rest more e =
       ]
     ]
 
-sound_line : (front : List Line) (line : Line) (rest : List Line) → Sound (front ++ line ∷ rest) → Sound (front ++ line ∷ [])
-sound_line front line rest s = sound_front (front ++ line ∷ []) rest (subst Sound (sym (append_assoc front (line ∷ []) rest)) s)
+sound_line : (front : List Line) (line : Line) (rest : List Line) → Viable (front ++ line ∷ rest) → Viable (front ++ line ∷ [])
+sound_line front line rest s = sound_front (front ++ line ∷ []) rest (subst Viable (sym (append_assoc front (line ∷ []) rest)) s)
 
 same_fault : {lines others : List Line} {n m : ℕ} {c d : Cause} → FirstFault lines n c → FirstFault others m d → lines ≡ others → (n ≡ m) × (c ≡ d)
 same_fault (fault.misfit front line rest before not_sound) (fault.misfit other at more sooner unsound) e =
@@ -132,9 +132,9 @@ same_fault (fault.misfit front line rest before not_sound) (fault.misfit other a
       ]
     ]
 same_fault (fault.misfit front line rest before not_sound) (fault.unclosed lines at sound none fails) e =
-    absurd (not_sound (sound_line front line rest (subst Sound (sym e) sound)))
+    absurd (not_sound (sound_line front line rest (subst Viable (sym e) sound)))
 same_fault (fault.unclosed lines at sound none fails) (fault.misfit front line rest before not_sound) e =
-    absurd (not_sound (sound_line front line rest (subst Sound e sound)))
+    absurd (not_sound (sound_line front line rest (subst Viable e sound)))
 same_fault (fault.unclosed lines line sound none fails) (fault.unclosed others at sound' none' fails') e =
     let one = one_failure others (subst (λ v. Fails 0 1 false v line UnclosedBrace) e fails) fails' in
     (ap (λ l. l.number) one.0, refl)

@@ -15,7 +15,7 @@ abbrev pub StandsFor : List Line → List Element → Type 0
 StandsFor lines items = Stands 0 1 false lines items
 
 -- Sound lines: with some lines `}` appended, they parse as items.
-pub record Sound (lines : List Line) : Type 0 where
+pub record Viable (lines : List Line) : Type 0 where
   pub closers : List Line
   pub close : list_all closes closers ≡ true
   pub items : List Element
@@ -25,9 +25,9 @@ pub record Sound (lines : List Line) : Type 0 where
 -- items, it is at the last brace that is still open.
 pub data FirstFault : List Line → ℕ → Cause → Type 0 where
   misfit : (front : List Line) (line : Line) (rest : List Line) →
-      ((shorter others : List Line) → front ≡ shorter ++ others → Sound shorter) → (Sound (front ++ line ∷ []) → ⊥) →
+      ((shorter others : List Line) → front ≡ shorter ++ others → Viable shorter) → (Viable (front ++ line ∷ []) → ⊥) →
       FirstFault (front ++ line ∷ rest) line.number (cause_of (opening line.text))
-  unclosed : (lines : List Line) (line : Line) → Sound lines → ((items : List Element) → StandsFor lines items → ⊥) →
+  unclosed : (lines : List Line) (line : Line) → Viable lines → ((items : List Element) → StandsFor lines items → ⊥) →
       Fails 0 1 false lines line UnclosedBrace → FirstFault lines line.number UnclosedBrace
 
 -- the bytes parse as this tree

@@ -22,7 +22,7 @@ use Rattle.plan_types.specs.declared.index.FlatDep.{FlatDep}
 use Rattle.plan_types.specs.declared.index.Index.{Index}
 use Rattle.plan_types.specs.declared.index.Package.{Package}
 use Rattle.conditionals.specs.Paths.{clean_paths}
-use Rattle.flatten.specs.Demands.{Outward, outward, outward_in, outward_of, external, paths_at, flat_of, demands_at, demands_of}
+use Rattle.flatten.specs.Demands.{ExternalDep, outward, outward_in, outward_of, external, paths_at, flat_of, demands_at, demands_of}
 use Rattle.flatten.specs.Sound.{IsSound, IsPackage, IsEntry, IsSource, has_package, has_unit, has_units, IsBody, component_deps, is_of_components, is_unit}
 use Rattle.version_range.specs.Version.{has_versions, is_version}
 use Rattle.qualified_goals.specs.declared.variable.Qual.TheVariants.{Top}
@@ -31,7 +31,7 @@ use Rattle.qualified_goals.specs.Names.{Name, NameTable, AreNumbers, is_listed, 
 use Rattle.constraint_set.specs.Bars.{is_number}
 use Rattle.common_laws.specs.Lists.{contains-none, contains-cases, contains-left, contains-right, contains-map, map-contains, contains-filter, contains-flat_map, flat_map-contains, all-at, all-from, any-at, any-from}
 use Rattle.solver_index.specs.Places.{rising, number, flag_number}
-use Rattle.cabal_problem.specs.Variables.{is_tool, is_tool_of, component_asks, asks_for_tool, declares, is_part}
+use Rattle.cabal_problem.specs.Variables.{is_tool, is_tool_of, component_depends, depends_on_tool, declares, is_part}
 use Rattle.cabal_problem.specs.Values.{is_flag}
 use Rattle.solver_index.specs.Versions.{flats_have_versions, deps_have_versions, body_has_versions, entry_has_versions, entries_have_versions, packages_have_versions}
 use Rattle.cabal_problem.specs.Lawful.{is_found, has_qual_for, flat_finds, body_finds, package_finds, packages_find}
@@ -98,7 +98,7 @@ flat-outward env d flat h =
       in_deps = kept.0;
       is_outward = subst (λ o. Contains (outward d) o) (sym guarded.2) at.1;
       external_is = kept.1;
-      dep_is = ap (λ (o : Outward). o.guarded.dep) guarded.2 ∙ ap (λ (f : FlatDep). f.dep) path.2;
+      dep_is = ap (λ (o : ExternalDep). o.guarded.dep) guarded.2 ∙ ap (λ (f : FlatDep). f.dep) path.2;
     }
 
 pub in-component-deps : (d : Description) (component : Component) (guarded : GuardedDep) → Contains d.components component → Contains component.deps guarded → Contains (component_deps d) guarded.dep
@@ -138,16 +138,16 @@ module _ (index : Index) (names : NameTable) (numbers : AreNumbers index.package
 
   pub outward-package : (env : Env) (d : Description) (flats : List FlatDep) (offer : Exposed) → IsSource env index d flats offer → (dep : Dep) → IsOutward d dep → has_package index dep.«package» ≡ true
   outward-package env d flats offer source dep is =
-      let asked = map (λ (o : Outward). o.guarded.dep.«package») (outward d) in
+      let asked = map (λ (o : ExternalDep). o.guarded.dep.«package») (outward d) in
       let set_up = map (λ (e : Dep). e.«package») d.setup in
       subst (λ (e : Dep). has_package index e.«package» ≡ true) is.dep_is
       (all-at (has_package index) (asked ++ set_up) is.guarded.dep.«package» source.packages
-      (contains-left asked set_up is.guarded.dep.«package» (map-contains (λ (o : Outward). o.guarded.dep.«package») (outward d) (outward_of is.component is.guarded) is.is_outward)))
+      (contains-left asked set_up is.guarded.dep.«package» (map-contains (λ (o : ExternalDep). o.guarded.dep.«package») (outward d) (outward_of is.component is.guarded) is.is_outward)))
 
   tool-asked : (d : Description) (guarded : GuardedDep) (component : Component) (t : ℕ) → Contains d.components component → Contains component.deps guarded → not guarded.dep.internal ≡ true
-      → is_tool guarded.dep.kind ≡ true → is_number (number_of names.packages guarded.dep.«package») t ≡ true → list_any (component_asks names t) d.components ≡ true
+      → is_tool guarded.dep.kind ≡ true → is_number (number_of names.packages guarded.dep.«package») t ≡ true → list_any (component_depends names t) d.components ≡ true
   tool-asked d guarded component t h k out tool is =
-      any-from (component_asks names t) d.components component h
+      any-from (component_depends names t) d.components component h
       (any-from (λ (g : GuardedDep). is_tool_of names t g.dep) component.deps guarded k
       (and_from (not guarded.dep.internal && is_tool guarded.dep.kind) (is_number (number_of names.packages guarded.dep.«package») t) (and_from (not guarded.dep.internal) (is_tool guarded.dep.kind) out tool) is))
 
@@ -158,8 +158,8 @@ module _ (index : Index) (names : NameTable) (numbers : AreNumbers index.package
   kind-found p e d flats offer guarded component kind.Library same there body in_d in_c out comp found = refl
   kind-found p e d flats offer guarded component kind.Tool same there body in_d in_c out comp found =
       let t = number packages names guarded.dep.«package» in
-      any-from (λ (f : Entry). asks_for_tool names t f.body) (entries_of packages p) e there
-      (subst (λ b. asks_for_tool names t b ≡ true) (sym body)
+      any-from (λ (f : Entry). depends_on_tool names t f.body) (entries_of packages p) e there
+      (subst (λ b. depends_on_tool names t b ≡ true) (sym body)
       (tool-asked d guarded component t in_d in_c out (ap is_tool same) (package-number guarded.dep.«package» found)))
   kind-found p e d flats offer guarded component kind.Setup same there body in_d in_c out comp found = absurd (false≢true (sym (ap is_of_components same) ∙ comp))
 
@@ -176,7 +176,7 @@ module _ (index : Index) (names : NameTable) (numbers : AreNumbers index.package
 
   pub setup-found : (env : Env) (d : Description) (flats : List FlatDep) (offer : Exposed) → IsSource env index d flats offer → (dep : Dep) → Contains d.setup dep → is_found packages names dep.«package» ≡ true
   setup-found env d flats offer source dep h =
-      let asked = map (λ (o : Outward). o.guarded.dep.«package») (outward d) in
+      let asked = map (λ (o : ExternalDep). o.guarded.dep.«package») (outward d) in
       let set_up = map (λ (e : Dep). e.«package») d.setup in
       package-found dep.«package»
       (all-at (has_package index) (asked ++ set_up) dep.«package» source.packages (contains-right asked set_up dep.«package» (map-contains (λ (e : Dep). e.«package») d.setup dep h)))

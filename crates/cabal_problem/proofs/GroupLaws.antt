@@ -5,15 +5,15 @@ use Rattle.choice_problem.specs.declared.problem.Demand.{Demand}
 use Rattle.choice_problem.specs.Assignment.{Assignment, is_yes}
 use Rattle.choice_problem.specs.General.{Request, request_of}
 use Rattle.common_laws.specs.Lists.{contains-head, contains-tail, contains-none, contains-cases, contains-append, contains-left, contains-right, any-at, any-from}
-use Rattle.cabal_problem.specs.Groups.{AreGroups, AsksForSame, IsGroup}
+use Rattle.cabal_problem.specs.Groups.{AreGroups, IsOfRequest, IsGroup}
 use Rattle.cabal_problem.specs.WholeDemands.{requests_of}
 use Rattle.std.proofs.Math.Bool.{or-false}
 
 -- ---- groups
 
 -- a property of the one member is one of each member
-pub one-same : (r : Request) (d e : Demand) → AsksForSame r d → Contains (d ∷ []) e → AsksForSame r e
-one-same r d e same h = elim (contains-cases d [] e h) [ inl is ↦ subst (AsksForSame r) is same | inr none ↦ absurd (contains-none e none) ]
+pub one-same : (r : Request) (d e : Demand) → IsOfRequest r d → Contains (d ∷ []) e → IsOfRequest r e
+one-same r d e same h = elim (contains-cases d [] e h) [ inl is ↦ subst (IsOfRequest r) is same | inr none ↦ absurd (contains-none e none) ]
 
 -- a demand is its own group
 itself : (d : Demand) → IsGroup (request_of d) (d ∷ [])
@@ -36,14 +36,14 @@ groups-append (r ∷ xs) ys ds es h k = (h.0, h.1 ++ es, ap (λ (l : List Demand
 pub record IsListed (A : Assignment) (r : Request) (demands : List Demand) : Type 0 where
   pub demand : Demand
   pub there : Contains demands demand
-  pub same : AsksForSame r demand
+  pub same : IsOfRequest r demand
   pub yes : is_yes A demand ≡ true
 
 -- one of the requests has the demand's owner, target and values, and is Yes
 pub record IsRequested (A : Assignment) (d : Demand) (requests : List Request) : Type 0 where
   pub request : Request
   pub there : Contains requests request
-  pub same : AsksForSame request d
+  pub same : IsOfRequest request d
   pub yes : request.is_yes A ≡ true
 
 pub listed-there : (A : Assignment) (r : Request) (requests : List Request) (demands : List Demand) → AreGroups requests demands → Contains requests r → r.is_yes A ≡ true → IsListed A r demands
@@ -55,7 +55,7 @@ listed-there A r (x ∷ requests) demands groups h holds =
     (elim (contains-cases x requests r h) [
       | inl is ↦
           let one = any-at (is_yes A) group (sym (groups.3.yes A) ∙ ap (λ (s : Request). s.is_yes A) is ∙ holds) in
-          record { demand = one.0; there = contains-left group rest one.0 one.1; same = subst (λ s. AsksForSame s one.0) is (groups.3.same one.0 one.1); yes = one.2 }
+          record { demand = one.0; there = contains-left group rest one.0 one.1; same = subst (λ s. IsOfRequest s one.0) is (groups.3.same one.0 one.1); yes = one.2 }
       | inr behind ↦
           let one = listed-there A r requests rest groups.4 behind holds in
           record { demand = one.demand; there = contains-right group rest one.demand one.there; same = one.same; yes = one.yes }

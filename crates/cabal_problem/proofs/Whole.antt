@@ -19,11 +19,11 @@ use Rattle.plan_types.specs.declared.index.Literal.{Literal}
 use Rattle.plan_types.specs.declared.index.Package.{Package}
 use Rattle.plan_types.specs.declared.project.Project.{Project}
 use Rattle.plan_types.specs.declared.version.Version.{Version}
-use Rattle.conditionals.specs.Paths.{Path, clean_paths, is_wanted, says}
+use Rattle.conditionals.specs.Paths.{Path, clean_paths, is_wanted, has_setting}
 use Rattle.conditionals.specs.Value.{value}
 use Rattle.flatten.specs.WholeCondition.{whole_condition}
 use Rattle.flatten.specs.Counting.{Parts, flags_of, are_met}
-use Rattle.flatten.specs.Demands.{Outward, outward, paths_at, flat_of, literal_of, stanza_of, demands_at}
+use Rattle.flatten.specs.Demands.{ExternalDep, outward, paths_at, flat_of, literal_of, stanza_of, demands_at}
 use Rattle.flatten.specs.Sound.{IsSound, IsBody}
 use Rattle.qualified_goals.specs.declared.variable.Part.{Part}
 use Rattle.qualified_goals.specs.declared.variable.Part.TheVariants.{Package as ThePackage, Flag, Tests, Benches}
@@ -42,26 +42,26 @@ use Rattle.cabal_problem.specs.Variables.{domain_of}
 use Rattle.cabal_problem.specs.ListedDemands.{part_beside, choice_beside, has_part, has_stanzas, can_count, flat_demand, flat_demands, setup_demand, setup_demands, setup_if, body_demands, part_demands, roots_of, unit_demands}
 use Rattle.cabal_problem.specs.Laws.{known-below}
 use Rattle.cabal_problem.specs.Problem.{problem_of}
-use Rattle.cabal_problem.specs.WholeDemands.{is_set, parts_under, whole_request, can_ask, requests_of, front_demands, setup_request, setup_requests, body_requests, part_requests, whole_problem}
-use Rattle.cabal_problem.specs.Groups.{AreGroups, AsksForSame, IsGroup, IsInGroups}
+use Rattle.cabal_problem.specs.WholeDemands.{as_setting, parts_under, whole_request, has_stanza_variable, requests_of, front_demands, setup_request, setup_requests, body_requests, part_requests, whole_problem}
+use Rattle.cabal_problem.specs.Groups.{AreGroups, IsOfRequest, IsGroup, IsInGroups}
 use Rattle.cabal_problem.proofs.Findings.{entry-sound}
 use Rattle.cabal_problem.proofs.GroupLaws.{groups-append, groups-same, listed-there, one-same, requested-there}
 use Rattle.plan_types.specs.Packages.{entries_of}
 
 -- ---- what an assignment makes
 
-value-says : (o : Option ℕ) (on : Bool) → is_one_of o (bit on ∷ []) ≡ says (is_set o) on
-value-says None on = refl
-value-says (Some zero) true = refl
-value-says (Some zero) false = refl
-value-says (Some (suc zero)) true = refl
-value-says (Some (suc zero)) false = refl
-value-says (Some (suc (suc n))) true =
+value-has_setting : (o : Option ℕ) (on : Bool) → is_one_of o (bit on ∷ []) ≡ has_setting (as_setting o) on
+value-has_setting None on = refl
+value-has_setting (Some zero) true = refl
+value-has_setting (Some zero) false = refl
+value-has_setting (Some (suc zero)) true = refl
+value-has_setting (Some (suc zero)) false = refl
+value-has_setting (Some (suc (suc n))) true =
     both_ways (nat_eq (suc (suc n)) 1 || false) false (λ h. elim (nat_eq (suc (suc n)) 1) as (λ b. nat_eq (suc (suc n)) 1 ≡ b → b || false ≡ true → false ≡ true) [
       | true ↦ λ e k. let same = eqb-true (suc (suc n)) 1 e in absurd (omega (arith, same))
       | false ↦ λ e k. k
     ] refl h) (λ h. absurd (false≢true h))
-value-says (Some (suc (suc n))) false =
+value-has_setting (Some (suc (suc n))) false =
     both_ways (nat_eq (suc (suc n)) 0 || false) false (λ h. elim (nat_eq (suc (suc n)) 0) as (λ b. nat_eq (suc (suc n)) 0 ≡ b → b || false ≡ true → false ≡ true) [
       | true ↦ λ e k. let same = eqb-true (suc (suc n)) 0 e in absurd (omega (arith, same))
       | false ↦ λ e k. k
@@ -71,8 +71,8 @@ literals-met : (names : NameTable) (owner : Choice) (A : Assignment) (literals :
     → list_all (is_made A) (map (choice_beside names owner) literals) ≡ are_met (parts_under names owner A) literals
 literals-met names owner A [] = refl
 literals-met names owner A (l ∷ literals) =
-    ap (λ b. b && list_all (is_made A) (map (choice_beside names owner) literals)) (value-says (A (part_beside owner (part_of names l.part))) l.on)
-    ∙ ap (λ b. says (parts_under names owner A l.part) l.on && b) (literals-met names owner A literals)
+    ap (λ b. b && list_all (is_made A) (map (choice_beside names owner) literals)) (value-has_setting (A (part_beside owner (part_of names l.part))) l.on)
+    ∙ ap (λ b. has_setting (parts_under names owner A l.part) l.on && b) (literals-met names owner A literals)
 
 -- ---- what can count
 
@@ -104,7 +104,7 @@ alone-is true = refl
 alone-is false = refl
 
 module _ (env : Env) (index : Index) (project : Project) (names : NameTable) (orders : List (List ℕ)) (sound : IsSound env index) (numbers : AreNumbers index.packages names)
-    (counts : (at : Outward) (parts : Parts) → list_any (λ flat. are_met parts flat.when) (demands_at env at)
+    (counts : (at : ExternalDep) (parts : Parts) → list_any (λ flat. are_met parts flat.when) (demands_at env at)
     ≡ (are_met parts (stanza_of at.component.kind) && is_wanted true (value env (flags_of parts) (whole_condition at.component at.guarded)))) where
   abbrev packages : List Package
   packages = index.packages
@@ -115,7 +115,7 @@ module _ (env : Env) (index : Index) (project : Project) (names : NameTable) (or
     abbrev stanzas : Bool
     stanzas = has_stanzas packages owner.var
 
-    abbrev request : Outward → Request
+    abbrev request : ExternalDep → Request
     request at = whole_request env packages names owner allows at
 
     abbrev demand : FlatDep → Demand
@@ -131,13 +131,13 @@ module _ (env : Env) (index : Index) (project : Project) (names : NameTable) (or
         ∙ sym (and-or_distrib_left (is_made A owner) (are_met (parts_under names owner A) flat.when) (list_any (λ f. are_met (parts_under names owner A) f.when) flats))
 
     -- each entry of a dependency has its owner, target and values
-    entry-same : (at : Outward) (d : Demand) → Contains (map demand (demands_at env at)) d → AsksForSame (request at) d
+    entry-same : (at : ExternalDep) (d : Demand) → Contains (map demand (demands_at env at)) d → IsOfRequest (request at) d
     entry-same at d h =
         let found = contains-map demand (demands_at env at) d h in
         let path = contains-map (flat_of at.component.kind at.guarded.dep) (clean_paths (paths_at env at)) found.0 found.1 in
-        subst (AsksForSame (request at)) (ap demand path.2 ∙ found.2) (record { owner = refl; target = refl; allowed = refl })
+        subst (IsOfRequest (request at)) (ap demand path.2 ∙ found.2) (record { owner = refl; target = refl; allowed = refl })
 
-    group : (at : Outward) → IsGroup (request at) (map demand (demands_at env at))
+    group : (at : ExternalDep) → IsGroup (request at) (map demand (demands_at env at))
     group at = record {
       same = entry-same at;
       yes = λ A. sym (any-yes A (demands_at env at) ∙ ap (λ b. is_made A owner && b) (counts at (parts_under names owner A)));
@@ -152,19 +152,19 @@ module _ (env : Env) (index : Index) (project : Project) (names : NameTable) (or
         let asked = list_all (λ (literal : Literal). has_part stanzas literal.part) (stanza_of k) in
         (λ i. cond (count-as-asked stanzas k dep path i) (flat ∷ paths-kept k dep paths i) (paths-kept k dep paths i)) ∙ more-kept asked flat rest
 
-    entries-kept : (at : Outward) → filter (can_count stanzas) (demands_at env at) ≡ cond (can_ask stanzas at) (demands_at env at) []
+    entries-kept : (at : ExternalDep) → filter (can_count stanzas) (demands_at env at) ≡ cond (has_stanza_variable stanzas at) (demands_at env at) []
     entries-kept at = paths-kept at.component.kind at.guarded.dep (clean_paths (paths_at env at))
 
-    deps-grouped : (ats : List Outward) → AreGroups (map request (filter (can_ask stanzas) ats)) (map demand (filter (can_count stanzas) (flat_map (demands_at env) ats)))
+    deps-grouped : (ats : List ExternalDep) → AreGroups (map request (filter (has_stanza_variable stanzas) ats)) (map demand (filter (can_count stanzas) (flat_map (demands_at env) ats)))
     deps-grouped [] = refl
     deps-grouped (at ∷ ats) =
-        let asking = filter (can_ask stanzas) ats in
+        let asking = filter (has_stanza_variable stanzas) ats in
         let rest = filter (can_count stanzas) (flat_map (demands_at env) ats) in
         let split =
         ap (map demand) (filter-append (can_count stanzas) (demands_at env at) (flat_map (demands_at env) ats) ∙ ap (λ l. l ++ rest) (entries-kept at))
-        ∙ map-append demand (cond (can_ask stanzas at) (demands_at env at) []) rest in
-        subst (λ (l : List Demand). AreGroups (map request (cond (can_ask stanzas at) (at ∷ asking) asking)) l) (sym split)
-        (elim (can_ask stanzas at) as (λ b. AreGroups (map request (cond b (at ∷ asking) asking)) (map demand (cond b (demands_at env at) []) ++ map demand rest)) [
+        ∙ map-append demand (cond (has_stanza_variable stanzas at) (demands_at env at) []) rest in
+        subst (λ (l : List Demand). AreGroups (map request (cond (has_stanza_variable stanzas at) (at ∷ asking) asking)) l) (sym split)
+        (elim (has_stanza_variable stanzas at) as (λ b. AreGroups (map request (cond b (at ∷ asking) asking)) (map demand (cond b (demands_at env at) []) ++ map demand rest)) [
           | true ↦ (map demand (demands_at env at), map demand rest, refl, group at, deps-grouped ats)
           | false ↦ deps-grouped ats
         ])
@@ -196,7 +196,7 @@ module _ (env : Env) (index : Index) (project : Project) (names : NameTable) (or
   body-grouped : (owner : Choice) (allows : Dep → Version → Bool) (body : Body) → IsBody env index body → AreGroups (body_requests env packages project names owner allows body) (body_demands packages project names owner allows body)
   body-grouped owner allows (Source d flats offer) source =
       let front = front_demands packages project names owner d in
-      let requests = map (whole_request env packages names owner allows) (filter (can_ask (has_stanzas packages owner.var)) (outward d)) in
+      let requests = map (whole_request env packages names owner allows) (filter (has_stanza_variable (has_stanzas packages owner.var)) (outward d)) in
       let deps = subst (λ l. AreGroups requests (flat_demands packages names owner allows l)) (sym source.demands) (deps-grouped owner allows (outward d)) in
       groups-append (requests_of front ++ requests) (setup_requests d.custom (map (setup_request packages names owner allows) d.setup))
       (front ++ flat_demands packages names owner allows flats) (setup_if d.custom (setup_demands packages names owner allows d.setup))

@@ -22,7 +22,7 @@ use Rattle.conditionals.specs.Paths.{is_wanted}
 use Rattle.conditionals.specs.Value.{value}
 use Rattle.flatten.specs.WholeCondition.{whole_condition}
 use Rattle.flatten.specs.Counting.{are_met, flags_of}
-use Rattle.flatten.specs.Demands.{Outward, outward, outward_in, outward_of, external, stanza_of}
+use Rattle.flatten.specs.Demands.{ExternalDep, outward, outward_in, outward_of, external, stanza_of}
 use Rattle.flatten.specs.Sound.{IsSound, IsSource, IsBody, component_deps, is_of_components}
 use Rattle.qualified_goals.specs.declared.variable.Qual.TheVariants.{Setup}
 use Rattle.qualified_goals.specs.declared.variable.Part.{Part}
@@ -41,12 +41,12 @@ use Rattle.cabal_problem.specs.ListedDemands.{body_demands, demands_of, flat_dem
 use Rattle.cabal_problem.specs.Laws.{known-below, known-qual, target-known}
 use Rattle.cabal_problem.specs.Lawful.{is_lawful}
 use Rattle.cabal_problem.specs.Problem.{problem_of}
-use Rattle.cabal_problem.specs.WholeDemands.{body_requests, can_ask, front_demands, part_requests, parts_under, requests_of, setup_request, setup_requests, whole_problem, whole_request}
+use Rattle.cabal_problem.specs.WholeDemands.{body_requests, has_stanza_variable, front_demands, part_requests, parts_under, requests_of, setup_request, setup_requests, whole_problem, whole_request}
 use Rattle.cabal_problem.proofs.Findings.{IsOutward, entry-sound, in-component-deps, kind-found, outward-package, package-found, setup-found}
 use Rattle.choice_problem.proofs.Trails.{is_made-is}
 use Rattle.plan_types.specs.Packages.{entries_of}
 
-outward-at : (d : Description) (at : Outward) → Contains (outward d) at → IsOutward d at.guarded.dep
+outward-at : (d : Description) (at : ExternalDep) → Contains (outward d) at → IsOutward d at.guarded.dep
 outward-at d at h =
     let component = contains-flat_map outward_in d.components at h in
     let guarded = contains-map (outward_of component.0) (external component.0.deps) at component.2 in
@@ -58,7 +58,7 @@ outward-at d at h =
       in_deps = kept.0;
       is_outward = subst (λ o. Contains (outward d) o) (sym guarded.2) h;
       external_is = kept.1;
-      dep_is = ap (λ (o : Outward). o.guarded.dep) guarded.2;
+      dep_is = ap (λ (o : ExternalDep). o.guarded.dep) guarded.2;
     }
 
 module _ (env : Env) (index : Index) (project : Project) (names : NameTable) (orders : List (List ℕ))
@@ -80,7 +80,7 @@ module _ (env : Env) (index : Index) (project : Project) (names : NameTable) (or
 
   whole-owned : (owner : Choice) (e : Entry) (allows : Dep → Version → Bool) (d : Description) (flats : List FlatDep) (offer : Exposed) → is_qual packages names owner.var.qual ≡ true
       → Contains (entries_of packages owner.var.«package») e → e.body ≡ Source d flats offer → IsSource env index d flats offer
-      → (at : Outward) → Contains (outward d) at → IsOwnedRequest whole owner (whole_request env packages names owner allows at)
+      → (at : ExternalDep) → Contains (outward d) at → IsOwnedRequest whole owner (whole_request env packages names owner allows at)
   whole-owned owner e allows d flats offer q there body source at h =
       let dep = at.guarded.dep in
       let is = outward-at d at h in
@@ -124,7 +124,7 @@ module _ (env : Env) (index : Index) (project : Project) (names : NameTable) (or
       let deps = flat_demands packages names owner allows flats in
       let setups = setup_if d.custom (setup_demands packages names owner allows d.setup) in
       let request = whole_request env packages names owner allows in
-      let requests = map request (filter (can_ask (has_stanzas packages owner.var)) (outward d)) in
+      let requests = map request (filter (has_stanza_variable (has_stanzas packages owner.var)) (outward d)) in
       let scripts = setup_requests d.custom (map (setup_request packages names owner allows) d.setup) in
       elim (contains-append (requests_of front ++ requests) scripts r h) [
         | inl own ↦ elim (contains-append (requests_of front) requests r own) [
@@ -133,9 +133,9 @@ module _ (env : Env) (index : Index) (project : Project) (names : NameTable) (or
               subst (λ s. IsOwnedRequest whole owner s) one.2
               (owned-request owner one.0 (owned one.0 (contains-left (front ++ deps) setups one.0 (contains-left front deps one.0 one.1))))
           | inr k ↦
-              let at = contains-map request (filter (can_ask (has_stanzas packages owner.var)) (outward d)) r k in
+              let at = contains-map request (filter (has_stanza_variable (has_stanzas packages owner.var)) (outward d)) r k in
               subst (λ s. IsOwnedRequest whole owner s) at.2
-              (whole-owned owner e allows d flats offer q there same source at.0 (contains-filter (can_ask (has_stanzas packages owner.var)) (outward d) at.0 at.1).0)
+              (whole-owned owner e allows d flats offer q there same source at.0 (contains-filter (has_stanza_variable (has_stanzas packages owner.var)) (outward d) at.0 at.1).0)
         ]
         | inr s ↦
             let has = λ (custom : d.custom ≡ true). any-from (λ (f : Entry). is_custom f.body) (entries_of packages owner.var.«package») e there (ap is_custom same ∙ custom) in

@@ -8,14 +8,14 @@ use Rattle.choice_problem.specs.General.{Request, General, owner_of}
 use Rattle.choice_problem.specs.Problem.{IsChoice, Problem}
 
 -- a demand has the owner, the target and the allowed values of a request
-pub record AsksForSame (r : Request) (d : Demand) : Type 0 where
+pub record IsOfRequest (r : Request) (d : Demand) : Type 0 where
   pub owner : owner_of d.when ≡ r.owner
   pub target : d.target ≡ r.target
   pub allowed : d.allowed ≡ r.allowed
 
 -- the demands of a request: each has its owner, target and values, and the request is Yes exactly if one of them is
 pub record IsGroup (r : Request) (group : List Demand) : Type 0 where
-  pub same : (d : Demand) → Contains group d → AsksForSame r d
+  pub same : (d : Demand) → Contains group d → IsOfRequest r d
   pub yes : (A : Assignment) → r.is_yes A ≡ list_any (is_yes A) group
 
 -- the demands are the groups of these requests, in their order

@@ -34,10 +34,10 @@ use Rattle.constraint_set.specs.Bars.{is_number}
 use Rattle.solver_index.specs.Places.{rising, entry_at, no_entry, number, flag_number}
 use Rattle.solver_index.specs.AllowedVersions.{allowed_versions}
 use Rattle.plan_types.specs.Guarded.{GuardedDep}
-use Rattle.cabal_problem.specs.Variables.{is_qual, is_part, is_known, domain_of, is_tool, is_tool_of, component_asks, asks_for_tool, is_custom, declares, has_kind, is_suite, is_benchmark, body_has_kind, is_top}
+use Rattle.cabal_problem.specs.Variables.{is_qual, is_part, is_known, domain_of, is_tool, is_tool_of, component_depends, depends_on_tool, is_custom, declares, has_kind, is_suite, is_benchmark, body_has_kind, is_top}
 use Rattle.choice_problem.specs.Twins.{is_whole, is_of_package}
 use Rattle.cabal_problem.specs.Reuse.{others-ordered, reused-of, reused-once}
-use Rattle.cabal_problem.specs.Values.{is_flag, on_first, package_var, chosen_default, chosen, reused, order_of}
+use Rattle.cabal_problem.specs.Values.{is_flag, better_first, package_var, chosen_default, chosen, reused, order_of}
 use Rattle.cabal_problem.specs.ListedDemands.{part_beside, target_for, flag_demand, stanza_demand, stanza_if, has_stanzas, choice_beside, when_of, can_count, flat_demand, flat_demands, setup_demand, setup_demands, setup_if, unit_demand, unit_demands, body_demands, part_demands, demands_of, local_root, local_roots, extra_root, roots_of}
 use Rattle.cabal_problem.specs.Bound.{all_quals, all_parts, vars_of, all_vars}
 use Rattle.cabal_problem.specs.Lawful.{is_found, has_qual_for, flat_finds, body_finds, package_finds, packages_find, extras_are_found, is_order_at, are_orders, is_lawful}
@@ -62,7 +62,7 @@ position-below test xs n h =
       | false ↦ λ e k. absurd (false≢true k)
     ] refl h
 
-on-first-order : (on : Bool) → IsOrderBelow 2 (on_first on)
+on-first-order : (on : Bool) → IsOrderBelow 2 (better_first on)
 on-first-order true = order-at (1 ∷ 0 ∷ []) refl
 on-first-order false = order-at (0 ∷ 1 ∷ []) refl
 
@@ -78,9 +78,9 @@ module _ (packages : List Package) (names : NameTable) where
             absurd (false≢true (sym (ap (λ (found : Package). list_any test found.entries) none) ∙ h))
       ] refl
 
-  tool-below : (t : ℕ) (body : Body) → asks_for_tool names t body ≡ true → t < length names.packages
+  tool-below : (t : ℕ) (body : Body) → depends_on_tool names t body ≡ true → t < length names.packages
   tool-below t (Source d flats exposed) h =
-      let component = any-at (component_asks names t) d.components h in
+      let component = any-at (component_depends names t) d.components h in
       let guarded = any-at (λ (g : GuardedDep). is_tool_of names t g.dep) component.0.deps component.2 in
       let test = is_number (number_of names.packages guarded.0.dep.«package») t in
       position-below (same_text guarded.0.dep.«package») names.packages t ((and_parts (not guarded.0.dep.internal && is_tool guarded.0.dep.kind) test guarded.2).1)
@@ -104,10 +104,10 @@ module _ (packages : List Package) (names : NameTable) where
   qual-in (Exe p t) h =
       let owners = rising (length packages) in
       let tools = rising (length names.packages) in
-      let entry = any-at (λ (e : Entry). asks_for_tool names t e.body) (entries_of packages p) h in
+      let entry = any-at (λ (e : Entry). depends_on_tool names t e.body) (entries_of packages p) h in
       contains-tail Top (map Setup owners ++ flat_map (λ (o : ℕ). map (Exe o) tools) owners) (Exe p t)
       (contains-right (map Setup owners) (flat_map (λ (o : ℕ). map (Exe o) tools) owners) (Exe p t)
-      (flat_map-contains (λ (o : ℕ). map (Exe o) tools) owners p (Exe p t) (rising-has (length packages) p (within (λ e. asks_for_tool names t e.body) p h))
+      (flat_map-contains (λ (o : ℕ). map (Exe o) tools) owners p (Exe p t) (rising-has (length packages) p (within (λ e. depends_on_tool names t e.body) p h))
       (map-contains (Exe p) tools t (rising-has (length names.packages) t (tool-below t entry.0.body entry.2)))))
 
   part-in : (q : Qual) (found : Package) (part : Part) → is_part names q found part ≡ true → Contains (all_parts (rising (length names.flags))) part

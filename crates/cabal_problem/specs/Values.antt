@@ -19,9 +19,9 @@ use Rattle.solver_index.specs.Places.{entry_at}
 use Rattle.plan_types.specs.Packages.{entries_of}
 
 -- both values, the better one first
-abbrev pub on_first : Bool → List ℕ
-on_first true = 1 ∷ 0 ∷ []
-on_first false = 0 ∷ 1 ∷ []
+abbrev pub better_first : Bool → List ℕ
+better_first true = 1 ∷ 0 ∷ []
+better_first false = 0 ∷ 1 ∷ []
 
 -- whether a flag has this number
 abbrev pub is_flag : NameTable → ℕ → FlagDecl → Bool
@@ -73,6 +73,6 @@ with_others first order = first ++ others first order
 -- preference, where orders has those of each package.
 abbrev pub order_of : List Package → NameTable → List (List ℕ) → Qual → ℕ → Part → List Choice → List ℕ
 order_of packages names orders q p ThePackage trail = with_others (reused trail (package_var q p)) (slice_index_or orders p [])
-order_of packages names orders q p (Flag f) trail = on_first (chosen_default names f (entries_of packages p) (chosen trail q p))
-order_of packages names orders q p Tests trail = on_first true
-order_of packages names orders q p Benches trail = on_first true
+order_of packages names orders q p (Flag f) trail = better_first (chosen_default names f (entries_of packages p) (chosen trail q p))
+order_of packages names orders q p Tests trail = better_first true
+order_of packages names orders q p Benches trail = better_first true

@@ -44,19 +44,19 @@ abbrev pub is_tool_of : NameTable → ℕ → Dep → Bool
 is_tool_of names t dep = not dep.internal && is_tool dep.kind && is_number (number_of names.packages dep.«package») t
 
 -- whether a component depends on this tool
-abbrev pub component_asks : NameTable → ℕ → Component → Bool
-component_asks names t component = list_any (λ guarded. is_tool_of names t guarded.dep) component.deps
+abbrev pub component_depends : NameTable → ℕ → Component → Bool
+component_depends names t component = list_any (λ guarded. is_tool_of names t guarded.dep) component.deps
 
 -- whether a source instance depends on this tool, under any condition
-abbrev pub asks_for_tool : NameTable → ℕ → Body → Bool
-asks_for_tool names t (Source description flat exposed) = list_any (component_asks names t) description.components
-asks_for_tool names t (Installed record_of needs) = false
+abbrev pub depends_on_tool : NameTable → ℕ → Body → Bool
+depends_on_tool names t (Source description flat exposed) = list_any (component_depends names t) description.components
+depends_on_tool names t (Installed record_of needs) = false
 
 -- the qualifiers: top level, the setups of packages with a setup script, and the tools that a package depends on
 abbrev pub is_qual : List Package → NameTable → Qual → Bool
 is_qual packages names Top = true
 is_qual packages names (Setup p) = list_any (λ e. is_custom e.body) (entries_of packages p)
-is_qual packages names (Exe p t) = list_any (λ e. asks_for_tool names t e.body) (entries_of packages p)
+is_qual packages names (Exe p t) = list_any (λ e. depends_on_tool names t e.body) (entries_of packages p)
 
 -- ---- parts
 

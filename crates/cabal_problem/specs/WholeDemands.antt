@@ -15,7 +15,7 @@ use Rattle.conditionals.specs.Paths.{is_wanted}
 use Rattle.conditionals.specs.Value.{value}
 use Rattle.flatten.specs.WholeCondition.{whole_condition}
 use Rattle.flatten.specs.Counting.{Parts, flags_of, are_met}
-use Rattle.flatten.specs.Demands.{Outward, outward, stanza_of}
+use Rattle.flatten.specs.Demands.{ExternalDep, outward, stanza_of}
 use Rattle.qualified_goals.specs.declared.variable.Part.{Part}
 use Rattle.qualified_goals.specs.declared.variable.Part.TheVariants.{Package as ThePackage, Flag, Tests, Benches}
 use Rattle.qualified_goals.specs.Names.{NameTable}
@@ -41,22 +41,22 @@ on_or_off (suc zero) = Some true
 on_or_off (suc (suc n)) = None
 
 -- a chosen value as off or on; none without a choice
-abbrev pub is_set : Option ℕ → Option Bool
-is_set None = None
-is_set (Some n) = on_or_off n
+abbrev pub as_setting : Option ℕ → Option Bool
+as_setting None = None
+as_setting (Some n) = on_or_off n
 
 -- an assignment's values of the flags and stanzas of the owner's package, under its qualifier
 abbrev pub parts_under : NameTable → Choice → Assignment → Parts
-parts_under names owner A part = is_set (A (part_beside owner (part_of names part)))
+parts_under names owner A part = as_setting (A (part_beside owner (part_of names part)))
 
 -- the owner is chosen, its stanza is on where there is one, and the whole condition is Yes
-abbrev pub is_whole_yes : Env → NameTable → Choice → Outward → Assignment → Bool
+abbrev pub is_whole_yes : Env → NameTable → Choice → ExternalDep → Assignment → Bool
 is_whole_yes env names owner at A =
     let parts = parts_under names owner A in
     is_made A owner && (are_met parts (stanza_of at.component.kind) && is_wanted true (value env (flags_of parts) (whole_condition at.component at.guarded)))
 
 -- the request of a dependency, with its whole condition
-abbrev pub whole_request : Env → List Package → NameTable → Choice → (Dep → Version → Bool) → Outward → Request
+abbrev pub whole_request : Env → List Package → NameTable → Choice → (Dep → Version → Bool) → ExternalDep → Request
 whole_request env packages names owner allows at =
     let dep = at.guarded.dep in
     record {
@@ -67,8 +67,8 @@ whole_request env packages names owner allows at =
     }
 
 -- a component whose stanza has no variable makes no request
-abbrev pub can_ask : Bool → Outward → Bool
-can_ask stanzas at = list_all (λ literal. has_part stanzas literal.part) (stanza_of at.component.kind)
+abbrev pub has_stanza_variable : Bool → ExternalDep → Bool
+has_stanza_variable stanzas at = list_all (λ literal. has_part stanzas literal.part) (stanza_of at.component.kind)
 
 -- demands as requests
 abbrev pub requests_of : List Demand → List Request
@@ -101,7 +101,7 @@ setup_requests false requests = []
 abbrev pub body_requests : Env → List Package → Project → NameTable → Choice → (Dep → Version → Bool) → Body → List Request
 body_requests env packages project names owner allows (Source d flats exposed) =
     requests_of (front_demands packages project names owner d)
-    ++ map (whole_request env packages names owner allows) (filter (can_ask (has_stanzas packages owner.var)) (outward d))
+    ++ map (whole_request env packages names owner allows) (filter (has_stanza_variable (has_stanzas packages owner.var)) (outward d))
     ++ setup_requests d.custom (map (setup_request packages names owner allows) d.setup)
 body_requests env packages project names owner allows (Installed record_of needs) = requests_of (unit_demands packages names owner record_of.depends needs)
 

@@ -2,7 +2,7 @@
 ghost use Rattle.std.specs.Prelude.{◌≡◌, ◌++◌, [], ◌<◌, IfOk, IsTrue, OnOk, length, map, slice_index_or, true};
 ghost use Rattle.std.specs.List.{list_all};
 ghost use Rattle.constraint_set.specs.Bars.{bars, bars_part, names_flag};
-ghost use Rattle.constraint_set.specs.Stands.{StandsFor};
+ghost use Rattle.constraint_set.specs.Stands.{Represents};
 ghost use Rattle.flatten.specs.Sound.{IsSound, has_package};
 ghost use Rattle.solver_index.specs.Defaults.{AreDefaults, default_of};
 ghost use Rattle.solver_index.specs.Dependencies.{all_dependencies, entry_dependencies};
@@ -15,7 +15,7 @@ ghost use Rattle.plan_types.specs.Packages.{entries_of};
 
 use crate::demands::{alone, part_beside, push_custom, push_deps, push_stanzas, unit_demands};
 use crate::roots::roots_of;
-use crate::values::{on_first, order_at, package_var, values_elsewhere, with_others};
+use crate::values::{better_first, order_at, package_var, values_elsewhere, with_others};
 use crate::variables::{domain_of, is_known};
 use choice_problem::{Choice, Choices, Demand, Part, Qual, Trail, Var};
 use constraint_set::Constraints;
@@ -35,7 +35,7 @@ pub struct CabalProblem<'a> {
     constraints: Constraints,
     tables: Tables,
     ghost lawful: { IsTrue (is_lawful index.now.packages settings.now.project names tables.orders) },
-    ghost stands: { ∥ StandsFor settings.now.project names constraints ∥₁ },
+    ghost stands: { ∥ Represents settings.now.project names constraints ∥₁ },
     ghost defaults: { ∥ AreDefaults index.now.packages names tables.defaults ∥₁ },
     ghost dependencies: { tables.dependencies ≡ all_dependencies index.now.packages settings.now.project names },
 }
@@ -339,10 +339,10 @@ impl<'a> Choices for CabalProblem<'a> {
             Part::Package => self.instances(alloc, v.qual, v.package, trail),
             Part::Flag(f) => {
                 let instance = trail.value_of(package_var(v.qual, v.package));
-                on_first(alloc, self.default_after(f, v.package, instance))
+                better_first(alloc, self.default_after(f, v.package, instance))
             }
-            Part::Tests => on_first(alloc, true),
-            Part::Benches => on_first(alloc, true),
+            Part::Tests => better_first(alloc, true),
+            Part::Benches => better_first(alloc, true),
         }
     }
 

@@ -1,7 +1,7 @@
 // The values of a variable in the order in which they are tried.
 ghost use Rattle.std.specs.Prelude.{◌≡◌, ◌++◌, ◌∷◌, [], cond, map, IfOk, OnOk, Some, slice_index_or};
 ghost use Rattle.choice_problem.specs.Assignment.{is_one_of};
-ghost use Rattle.cabal_problem.specs.Values.{each_once, elsewhere, on_first, others, package_var, values_elsewhere, with_others};
+ghost use Rattle.cabal_problem.specs.Values.{each_once, elsewhere, better_first, others, package_var, values_elsewhere, with_others};
 
 use choice_problem::{Choice, is_same};
 use plan_types::{List, NoMemory};
@@ -100,8 +100,8 @@ fn push_other(all: &mut Vec<u64>, first: &[u64], n: u64) -> Result<(), NoMemory>
 }
 
 /// Both values of a flag or stanza, the given one first.
-pub(crate) fn on_first(alloc: Global, on: bool) -> Result<List<u64>, NoMemory>
-    ensures { IfOk result (λ values. values ≡ on_first on) }
+pub(crate) fn better_first(alloc: Global, on: bool) -> Result<List<u64>, NoMemory>
+    ensures { IfOk result (λ values. values ≡ better_first on) }
 {
     if on {
         return copied(alloc, &[1, 0]);

@@ -4,7 +4,7 @@ ghost use Rattle.std.specs.List.{list_any};
 ghost use Rattle.constraint_set.specs.Bars.{is_number};
 ghost use Rattle.qualified_goals.specs.Names.{number_of};
 ghost use Rattle.cabal_problem.specs.Values.{is_flag};
-ghost use Rattle.cabal_problem.specs.Variables.{asks_for_tool, body_has_kind, component_asks, declares, domain_of, has_kind, is_benchmark, is_custom, is_known, is_part, is_qual, is_suite, is_tool, is_tool_of, is_top};
+ghost use Rattle.cabal_problem.specs.Variables.{depends_on_tool, body_has_kind, component_depends, declares, domain_of, has_kind, is_benchmark, is_custom, is_known, is_part, is_qual, is_suite, is_tool, is_tool_of, is_top};
 ghost use Rattle.plan_types.specs.Packages.{declared_by, package_at};
 
 use plan_types::{
@@ -65,13 +65,13 @@ fn is_custom(body: &Body) -> bool
 }
 
 fn some_asks(names: &Names, t: u64, entries: &[Entry]) -> bool
-    ensures { result ≡ list_any (λ e. asks_for_tool names.now t e.body) entries.now }
+    ensures { result ≡ list_any (λ e. depends_on_tool names.now t e.body) entries.now }
 {
-    entries.iter().any(|e| asks_for_tool(names, t, &e.body))
+    entries.iter().any(|e| depends_on_tool(names, t, &e.body))
 }
 
-fn asks_for_tool(names: &Names, t: u64, body: &Body) -> bool
-    ensures { result ≡ asks_for_tool names.now t body.now }
+fn depends_on_tool(names: &Names, t: u64, body: &Body) -> bool
+    ensures { result ≡ depends_on_tool names.now t body.now }
 {
     match body {
         Body::Source { description, .. } => some_component_asks(names, t, description),
@@ -80,16 +80,16 @@ fn asks_for_tool(names: &Names, t: u64, body: &Body) -> bool
 }
 
 fn some_component_asks(names: &Names, t: u64, d: &Description) -> bool
-    ensures { result ≡ list_any (component_asks names.now t) d.now.components }
+    ensures { result ≡ list_any (component_depends names.now t) d.now.components }
 {
     d.components
         .as_slice()
         .iter()
-        .any(|component| component_asks(names, t, component))
+        .any(|component| component_depends(names, t, component))
 }
 
-fn component_asks(names: &Names, t: u64, component: &Component) -> bool
-    ensures { result ≡ component_asks names.now t component.now }
+fn component_depends(names: &Names, t: u64, component: &Component) -> bool
+    ensures { result ≡ component_depends names.now t component.now }
 {
     some_group_asks(names, t, component.deps.groups())
 }

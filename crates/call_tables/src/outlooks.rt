@@ -92,7 +92,7 @@ fn table(alloc: Global, case: &str) -> Result<Conditions, Fail> {
 }
 
 fn shown(alloc: Global, last: &Outlook) -> Result<String, Fail> {
-    let never = if last.never { " never" } else { "" };
+    let never = if last.known_impossible { " never" } else { "" };
     Ok(format!(in alloc; "{}{never}", last.number)?)
 }
 

@@ -40,13 +40,13 @@ use Rattle.solver_index.proofs.ListLaws.{rising-below}
 use Rattle.cabal_problem.specs.Laws.{rising-has}
 use Rattle.cabal_problem.specs.ListedDemands.{has_stanzas, qual_for, unit_demand, unit_demands}
 use Rattle.cabal_problem.specs.Values.{package_var}
-use Rattle.cabal_problem.specs.WholeDemands.{body_requests, can_ask, setup_request, setup_requests, whole_request}
+use Rattle.cabal_problem.specs.WholeDemands.{body_requests, has_stanza_variable, setup_request, setup_requests, whole_request}
 use Rattle.plan_components.specs.declared.node.Need.{Need}
 use Rattle.plan_components.specs.declared.node.Node.{Node}
 use Rattle.plan_components.specs.declared.node.Piece.{Piece}
 use Rattle.plan_components.specs.declared.node.Piece.TheVariants.{Whole, One}
-use Rattle.plan_components.specs.Chosen.{Selection, body_at, chosen_flags, holds}
-use Rattle.plan_components.specs.Needs.{asked_pieces, asks, component_needs, counts, dep_needs, need_of, needs_by, needs_of, one_needs, piece_needs, qual_of_dep, unit_need, wanted_needs}
+use Rattle.plan_components.specs.Chosen.{Selection, body_at, chosen_flags, condition_holds}
+use Rattle.plan_components.specs.Needs.{meant_pieces, means, component_needs, counts, dep_needs, need_of, needs_by, needs_of, one_needs, piece_needs, qual_of_dep, unit_need, wanted_needs}
 use Rattle.plan_components.specs.Wanted.{as_pieces, is_asked, is_wanted_under, node_of, places as component_places}
 use Rattle.complete_plan.proofs.Flags.{asked-kind, flags, flags-kept, parts}
 use Rattle.complete_plan.proofs.Given.{Given, IsChosen, PackageEdge, allows, at-chosen, body-sound, chosen-at, edge-to, owner, own-number-is, packages, selection, value-of-target}
@@ -87,10 +87,10 @@ pub record IsInner (selection : Selection) (node other : Node) : Type 0 where
 pub contains-at : (components : List Component) (place : ℕ) (c : Component) → slice_get components place ≡ Some c → Contains components c
 contains-at components place c h = (place, slice_get_within components place c h, get_or_from_slice_get components place c c h)
 
-asks-for : (kind : DepKind) (dep : Dep) (c : Component) → is_of_components kind ≡ true → asks kind dep c ≡ true → asks_for kind dep c ≡ true
-asks-for dep_kind.Library dep c h k = k
-asks-for dep_kind.Tool dep c h k = k
-asks-for dep_kind.Setup dep c h k = absurd (false≢true h)
+means-for : (kind : DepKind) (dep : Dep) (c : Component) → is_of_components kind ≡ true → means kind dep c ≡ true → asks_for kind dep c ≡ true
+means-for dep_kind.Library dep c h k = k
+means-for dep_kind.Tool dep c h k = k
+means-for dep_kind.Setup dep c h k = absurd (false≢true h)
 
 of-setup : (kind : DepKind) → is_of_setup kind ≡ true → kind ≡ dep_kind.Setup
 of-setup dep_kind.Library h = absurd (false≢true h)
@@ -135,12 +135,12 @@ module _ (g : Given) (node : Node) (d : Description) (flats : List FlatDep) (off
   needed-var dep need h =
       let t = target_of dep in
       let under = qual_of_dep node dep t in
-      let found = contains-map (need_of dep.kind under t) (asked_pieces dep (body_at (selection g) under t)) need h in
+      let found = contains-map (need_of dep.kind under t) (meant_pieces dep (body_at (selection g) under t)) need h in
       ap (λ (n : Need). var_of n.node) found.2
 
   -- a dependency on another package that counts
   pub dep-edge : (component : Component) (guarded : GuardedDep) (need : Need) → Contains d.components component → is_asked (selection g) q p component.kind ≡ true
-      → Contains component.deps guarded → guarded.dep.internal ≡ false → holds g.env (flags g q p d flats offer c) (whole_condition component guarded) ≡ true
+      → Contains component.deps guarded → guarded.dep.internal ≡ false → condition_holds g.env (flags g q p d flats offer c) (whole_condition component guarded) ≡ true
       → Contains (dep_needs (selection g) node guarded.dep) need → PackageEdge g (var_of node) (var_of need.node)
   dep-edge component guarded need inside wanted dep_inside out counts_so h =
       let dep = guarded.dep in
@@ -152,7 +152,7 @@ module _ (g : Given) (node : Node) (d : Description) (flats : List FlatDep) (off
       let request = whole_request g.env (packages g) g.names made (allows g q p body c) in
       let stanzas = has_stanzas (packages g) made.var in
       let asked = from-deps g q p d flats offer c (request at)
-      (map-contains request (filter (can_ask stanzas) (outward d)) at (filter-contains (can_ask stanzas) (outward d) at (outward-there d component guarded inside dep_inside out) can.has)) in
+      (map-contains request (filter (has_stanza_variable stanzas) (outward d)) at (filter-contains (has_stanza_variable stanzas) (outward d) at (outward-there d component guarded inside dep_inside out) can.has)) in
       let is_yes = is_wanted true (value g.env (flags_of known) (whole_condition component guarded)) in
       let counted = and_from (are_met known (stanza_of component.kind)) is_yes can.met
       (yes-stays g.env (flag_in (flags g q p d flats offer c)) (flags_of known) (flags-kept g q p d flats offer c) (whole_condition component guarded) counts_so) in
@@ -194,17 +194,17 @@ module _ (g : Given) (node : Node) (d : Description) (flats : List FlatDep) (off
       ap (number (packages g) g.names) (same-is dep.«package» d.name ((and_parts (same_text dep.«package» d.name) (finds_all dep.kind dep d.components) named).0))
       ∙ own-number-is g q p body c in
       let q_is : under ≡ q = ap (λ b. if b then q else qual_for dep.kind (package_var q p) t) own in
-      let found = contains-map (need_of dep.kind under t) (asked_pieces dep (body_at (selection g) under t)) need h in
-      let here : Contains (asked_pieces dep (Some body)) found.0 =
-      subst (λ o. Contains (asked_pieces dep o) found.0)
+      let found = contains-map (need_of dep.kind under t) (meant_pieces dep (body_at (selection g) under t)) need h in
+      let here : Contains (meant_pieces dep (Some body)) found.0 =
+      subst (λ o. Contains (meant_pieces dep o) found.0)
       (ap (λ k. body_at (selection g) k t) q_is ∙ ap (body_at (selection g) q) t_is ∙ chosen) found.1 in
-      let one = one-piece d.custom (component_places (asks dep.kind dep) d.components) found.0 simple here in
-      let other = places-at (asks dep.kind dep) d.components one.0 one.1 in
+      let one = one-piece d.custom (component_places (means dep.kind dep) d.components) found.0 simple here in
+      let other = places-at (means dep.kind dep) d.components one.0 one.1 in
       let same : node_of q p (One one.0) ≡ need.node =
       ap (node_of q p) one.2 ∙ ap (λ k. node_of q k found.0) (sym t_is) ∙ ap (λ k. node_of k t found.0) (sym q_is) ∙ ap (λ (n : Need). n.node) found.2 in
       let need_is : needs component other.component ≡ true =
       any-from (λ (x : GuardedDep). x.dep.internal && asks_for x.dep.kind x.dep other.component) component.deps guarded dep_inside
-      (and_from dep.internal (asks_for dep.kind dep other.component) own (asks-for dep.kind dep other.component of_components other.passes)) in
+      (and_from dep.internal (asks_for dep.kind dep other.component) own (means-for dep.kind dep other.component of_components other.passes)) in
       subst (IsInner (selection g) node) same (record {
         qual_is = refl;
         package_is = refl;
@@ -247,8 +247,8 @@ module _ (g : Given) (node : Node) (d : Description) (flats : List FlatDep) (off
       let from = contains-flat_map (λ (x : GuardedDep). dep_needs (selection g) node x.dep) (filter (counts (selection g) values false component) component.deps) need of.2 in
       let guarded = from.0 in
       let kept = contains-filter (counts (selection g) values false component) component.deps guarded from.1 in
-      let both = and_parts (not guarded.dep.internal) (holds g.env values (whole_condition component guarded)) kept.1 in
-      let asked = (and_parts (is_asked (selection g) q p component.kind) (holds g.env values component.buildable) wanted.1).0 in
+      let both = and_parts (not guarded.dep.internal) (condition_holds g.env values (whole_condition component guarded)) kept.1 in
+      let asked = (and_parts (is_asked (selection g) q p component.kind) (condition_holds g.env values component.buildable) wanted.1).0 in
       inl (dep-edge component guarded need wanted.0 asked kept.0 (not-true guarded.dep.internal both.0) both.1 from.2))
       (λ b.
       let of = contains-flat_map (dep_needs (selection g) node) d.setup need b in

@@ -18,7 +18,7 @@ use Rattle.plan_types.specs.declared.index.Exposed.{Exposed}
 use Rattle.plan_types.specs.declared.index.FlatDep.{FlatDep}
 use Rattle.plan_types.specs.declared.index.Literal.{Literal}
 use Rattle.plan_types.specs.declared.index.PartName.TheVariants as literal
-use Rattle.conditionals.specs.Paths.{says}
+use Rattle.conditionals.specs.Paths.{has_setting}
 use Rattle.conditionals.specs.Value.{flag_in}
 use Rattle.flatten.specs.Counting.{Parts, are_met, flags_of}
 use Rattle.flatten.specs.Demands.{stanza_of}
@@ -36,7 +36,7 @@ use Rattle.solver_index.specs.Places.{flag_number}
 use Rattle.cabal_problem.specs.ListedDemands.{flag_demand, has_part, has_stanzas, stanza_if}
 use Rattle.cabal_problem.specs.Values.{package_var}
 use Rattle.cabal_problem.specs.Variables.{body_has_kind, has_kind, is_benchmark, is_on, is_part, is_qual, is_suite}
-use Rattle.cabal_problem.specs.WholeDemands.{front_demands, is_set, on_or_off, parts_under}
+use Rattle.cabal_problem.specs.WholeDemands.{front_demands, as_setting, on_or_off, parts_under}
 use Rattle.plan_components.specs.Chosen.{chosen_flag, chosen_flags, is_turned_on, is_value_on, part_var}
 use Rattle.plan_components.specs.Wanted.{is_asked}
 use Rattle.complete_plan.proofs.Given.{Given, IsChosen, packages, selection, value-of-target}
@@ -49,7 +49,7 @@ set-as zero lt = refl
 set-as (suc zero) lt = refl
 set-as (suc (suc n)) lt = absurd (omega (arith, lt))
 
-set-on : (o : Option ℕ) → is_value_on o ≡ true → is_set o ≡ Some true
+set-on : (o : Option ℕ) → is_value_on o ≡ true → as_setting o ≡ Some true
 set-on None h = absurd (false≢true h)
 set-on (Some n) h = ap on_or_off (eqb-true n 1 h)
 
@@ -103,19 +103,19 @@ module _ (g : Given) (q : Qual) (p : ℕ) (d : Description) (flats : List FlatDe
       let benches = stanza_if (has_stanzas (packages g) chooser.var && has_kind is_benchmark d) chooser Benches in
       contains-left (map one d.flags ++ tests) benches (one decl) (contains-left (map one d.flags) tests (one decl) (map-contains one d.flags decl h))
 
-  flag-set : (decl : FlagDecl) → Contains d.flags decl → is_set (g.assignment (flag_at decl)) ≡ Some (is_value_on (g.assignment (flag_at decl)))
+  flag-set : (decl : FlagDecl) → Contains d.flags decl → as_setting (g.assignment (flag_at decl)) ≡ Some (is_value_on (g.assignment (flag_at decl)))
   flag-set decl h =
       let made = and_from (is_made g.assignment chooser) true (is_made-from g.assignment chooser c.value) refl in
       let there = map-contains request_of (front_demands (packages g) g.project g.names chooser d) (one decl) (flag-asked decl h) in
       let value = value-of-target g q p (Source d flats offer) c (request_of (one decl)) (request.from-front g q p d flats offer c (request_of (one decl)) there) made in
       let small : value.0 < 2 = (g.holds.assignment.choice (choice_of (flag_at decl) value.0) value.1).value in
-      ap is_set value.1 ∙ set-as value.0 small ∙ ap (λ o. Some (is_value_on o)) (sym value.1)
+      ap as_setting value.1 ∙ set-as value.0 small ∙ ap (λ o. Some (is_value_on o)) (sym value.1)
 
   -- a flag that the plan has on or off is so for the demands too
   pub flags-kept : (name : List ℕ) (on : Bool) → flag_in flags name ≡ Some on → flags_of parts name ≡ Some on
   flags-kept name on h =
       let found = declared (chosen_flag (selection g) q p) (λ decl. refl) d.flags name on h in
-      subst (λ k. is_set (g.assignment (part_var q p (Flag (flag_number g.names k)))) ≡ Some on) found.named
+      subst (λ k. as_setting (g.assignment (part_var q p (Flag (flag_number g.names k)))) ≡ Some on) found.named
       (flag-set found.decl found.among ∙ ap Some found.same)
 
   -- ---- stanzas
@@ -141,8 +141,8 @@ module _ (g : Given) (q : Qual) (p : ℕ) (d : Description) (flats : List FlatDe
     pub met : are_met parts (stanza_of kind) ≡ true
     pub has : list_all (λ (l : Literal). has_part stanzas l.part) (stanza_of kind) ≡ true
 
-  set-part : (part : Part) → is_turned_on (selection g) q p part ≡ true → says (is_set (g.assignment (part_var q p part))) true ≡ true
-  set-part part h = ap (λ o. says o true) (set-on (g.assignment (part_var q p part)) h)
+  set-part : (part : Part) → is_turned_on (selection g) q p part ≡ true → has_setting (as_setting (g.assignment (part_var q p part))) true ≡ true
+  set-part part h = ap (λ o. has_setting o true) (set-on (g.assignment (part_var q p part)) h)
 
   abbrev some-has : (CompKind → Bool) → Bool
   some-has is_meant = list_any (λ (e : Entry). body_has_kind is_meant e.body) (package_at (packages g) p).entries
@@ -151,11 +151,11 @@ module _ (g : Given) (q : Qual) (p : ℕ) (d : Description) (flats : List FlatDe
   asked-kind comp.Library h = record { met = refl; has = refl }
   asked-kind comp.Executable h = record { met = refl; has = refl }
   asked-kind comp.Test h = record {
-    met = and_from (says (parts literal.Tests) true) true (set-part Tests h) refl;
+    met = and_from (has_setting (parts literal.Tests) true) true (set-part Tests h) refl;
     has = and_from stanzas true (stanza-known Tests (some-has is_suite) refl h) refl;
   }
   asked-kind comp.Bench h = record {
-    met = and_from (says (parts literal.Benches) true) true (set-part Benches h) refl;
+    met = and_from (has_setting (parts literal.Benches) true) true (set-part Benches h) refl;
     has = and_from stanzas true (stanza-known Benches (some-has is_benchmark) refl h) refl;
   }
   asked-kind comp.Foreign h = record { met = refl; has = refl }

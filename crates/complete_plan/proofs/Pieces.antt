@@ -26,9 +26,9 @@ use Rattle.plan_components.specs.declared.node.Need.{Need}
 use Rattle.plan_components.specs.declared.node.Node.{Node}
 use Rattle.plan_components.specs.declared.node.Piece.{Piece}
 use Rattle.plan_components.specs.declared.node.Piece.TheVariants.{Whole, One}
-use Rattle.plan_components.specs.Chosen.{Selection, body_at, chosen_flags, holds}
-use Rattle.plan_components.specs.Needs.{asked_pieces, asks, dep_needs, need_of, qual_of_dep}
-use Rattle.plan_components.specs.Wanted.{as_pieces, first_nodes, first_of, first_pieces, first_places, is_asked, is_begun, is_wanted_under, node_of, or_else, places, places_from}
+use Rattle.plan_components.specs.Chosen.{Selection, body_at, chosen_flags, condition_holds}
+use Rattle.plan_components.specs.Needs.{meant_pieces, means, dep_needs, need_of, qual_of_dep}
+use Rattle.plan_components.specs.Wanted.{as_pieces, first_nodes, first_of, first_pieces, first_places, is_asked, has_first_nodes, is_wanted_under, node_of, or_else, places, places_from}
 
 -- ---- components at places
 
@@ -131,20 +131,20 @@ module _ (selection : Selection) (q : Qual) (p : ℕ) where
       let found = any-at (is_lib c) libs h in
       library-asked c.kind (and_parts (is_library c.kind) (same_text c.name (name_of found.0)) found.2).0
 
-  asks-asked : (kind : DepKind) (dep : Dep) (c : Component) → asks kind dep c ≡ true → is_asked selection q p c.kind ≡ true
-  asks-asked dep_kind.Library dep c h = some-library dep.libs c h
-  asks-asked dep_kind.Tool dep c h = executable-asked c.kind (and_parts (is_executable c.kind) (same_text c.name dep.exe) h).0
-  asks-asked dep_kind.Setup dep c h = some-library dep.libs c h
+  means-asked : (kind : DepKind) (dep : Dep) (c : Component) → means kind dep c ≡ true → is_asked selection q p c.kind ≡ true
+  means-asked dep_kind.Library dep c h = some-library dep.libs c h
+  means-asked dep_kind.Tool dep c h = executable-asked c.kind (and_parts (is_executable c.kind) (same_text c.name dep.exe) h).0
+  means-asked dep_kind.Setup dep c h = some-library dep.libs c h
 
-  dep-fits : (dep : Dep) (body : Body) (piece : Piece) → Contains (asked_pieces dep (Some body)) piece → Fits selection q p body piece
+  dep-fits : (dep : Dep) (body : Body) (piece : Piece) → Contains (meant_pieces dep (Some body)) piece → Fits selection q p body piece
   dep-fits dep (Installed record_of needs) piece h = only-whole piece h
   dep-fits dep (Source d flats offer) piece h =
-      pieces-fit d flats offer d.custom refl (places (asks dep.kind dep) d.components)
-      (λ k c. weaker (asks dep.kind dep) is_asked_one d.components k (asks-asked dep.kind dep) (places-at (asks dep.kind dep) d.components k c)) piece h
+      pieces-fit d flats offer d.custom refl (places (means dep.kind dep) d.components)
+      (λ k c. weaker (means dep.kind dep) is_asked_one d.components k (means-asked dep.kind dep) (places-at (means dep.kind dep) d.components k c)) piece h
 
-  dep-well : (dep : Dep) (piece : Piece) → Contains (asked_pieces dep (body_at selection q p)) piece → IsWell selection (node_of q p piece)
+  dep-well : (dep : Dep) (piece : Piece) → Contains (meant_pieces dep (body_at selection q p)) piece → IsWell selection (node_of q p piece)
   dep-well dep piece h =
-      elim (body_at selection q p) as (λ o. body_at selection q p ≡ o → Contains (asked_pieces dep o) piece → IsWell selection (node_of q p piece)) [
+      elim (body_at selection q p) as (λ o. body_at selection q p ≡ o → Contains (meant_pieces dep o) piece → IsWell selection (node_of q p piece)) [
         | None ↦ λ e there. absurd (contains-none piece there)
         | Some body ↦ λ e there. record { body = body; at = e; fits = dep-fits dep body piece there }
       ] refl h
@@ -153,7 +153,7 @@ pub need-well : (selection : Selection) (node : Node) (dep : Dep) (need : Need) 
 need-well selection node dep need h =
     let t = number selection.packages selection.names dep.«package» in
     let q = qual_of_dep node dep t in
-    let found = contains-map (need_of dep.kind q t) (asked_pieces dep (body_at selection q t)) need h in
+    let found = contains-map (need_of dep.kind q t) (meant_pieces dep (body_at selection q t)) need h in
     subst (λ (n : Need). IsWell selection n.node) found.2 (dep-well selection q t dep found.0 found.1)
 
 -- ---- the nodes with which a plan begins
@@ -167,7 +167,7 @@ module _ (selection : Selection) where
   wanted_in p d = is_wanted_under selection Top p (chosen_flags selection Top p d)
 
   wanted-asked : (p : ℕ) (d : Description) (c : Component) → wanted_in p d c ≡ true → is_asked selection Top p c.kind ≡ true
-  wanted-asked p d c h = (and_parts (is_asked selection Top p c.kind) (holds selection.env (chosen_flags selection Top p d) c.buildable) h).0
+  wanted-asked p d c h = (and_parts (is_asked selection Top p c.kind) (condition_holds selection.env (chosen_flags selection Top p d) c.buildable) h).0
 
   first-stands : (local : Bool) (p : ℕ) (d : Description) (k : ℕ) → Contains (first_places local (wanted_in p d) d.components) k
       → StandsAt (λ c. is_asked selection Top p c.kind) d.components k
@@ -198,7 +198,7 @@ module _ (selection : Selection) where
   first-of-package p node h =
       let of_package = package_at selection.packages p in
       let pieces = first_pieces selection of_package.local p (body_at selection Top p) in
-      elim (is_begun of_package) as (λ b. Contains (if b then map (node_of Top p) pieces else []) node → IsWell selection node) [
+      elim (has_first_nodes of_package) as (λ b. Contains (if b then map (node_of Top p) pieces else []) node → IsWell selection node) [
         | true ↦ λ there.
             let found = contains-map (node_of Top p) pieces node there in
             subst (IsWell selection) found.2 (first-piece of_package.local p found.0 found.1)

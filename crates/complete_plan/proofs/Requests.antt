@@ -12,7 +12,7 @@ use Rattle.qualified_goals.specs.declared.variable.Qual.{Qual}
 use Rattle.choice_problem.specs.declared.problem.Choice.{Choice}
 use Rattle.choice_problem.specs.General.{Request}
 use Rattle.cabal_problem.specs.ListedDemands.{has_stanzas}
-use Rattle.cabal_problem.specs.WholeDemands.{body_requests, can_ask, front_demands, requests_of, setup_request, setup_requests, whole_request}
+use Rattle.cabal_problem.specs.WholeDemands.{body_requests, has_stanza_variable, front_demands, requests_of, setup_request, setup_requests, whole_request}
 use Rattle.complete_plan.proofs.Given.{Given, IsChosen, allows, owner, packages}
 
 module _ (g : Given) (q : Qual) (p : ℕ) (d : Description) (flats : List FlatDep) (offer : Exposed) (c : IsChosen g q p (Source d flats offer)) where
@@ -26,7 +26,7 @@ module _ (g : Given) (q : Qual) (p : ℕ) (d : Description) (flats : List FlatDe
   front = requests_of (front_demands (packages g) g.project g.names chooser d)
 
   abbrev pub deps : List Request
-  deps = map (whole_request g.env (packages g) g.names chooser (allows g q p body c)) (filter (can_ask (has_stanzas (packages g) chooser.var)) (outward d))
+  deps = map (whole_request g.env (packages g) g.names chooser (allows g q p body c)) (filter (has_stanza_variable (has_stanzas (packages g) chooser.var)) (outward d))
 
   abbrev pub scripts : List Request
   scripts = setup_requests d.custom (map (setup_request (packages g) g.names chooser (allows g q p body c)) d.setup)

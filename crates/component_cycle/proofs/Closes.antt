@@ -5,12 +5,12 @@ use Rattle.std.proofs.lemmas.Bool.{cases_eq, cases_lt, false≢true}
 use Rattle.std.proofs.lemmas.List.{get_or-take, get_or-drop, length-take-le, get_or_past, get_or_default, length_push}
 use Rattle.std.proofs.lemmas.List.Elements.{Contains-push, Contains-push_cases, Contains-append_left}
 use Rattle.component_cycle.specs.declared.search.State.{State}
-use Rattle.component_cycle.specs.declared.search.State.TheVariants.{Unseen, OnPath, Settled}
+use Rattle.component_cycle.specs.declared.search.State.TheVariants.{Unseen, OnPath, Finished}
 use Rattle.component_cycle.specs.declared.search.Mark.{Mark}
 use Rattle.component_cycle.specs.declared.search.Search.{Search}
 use Rattle.component_cycle.specs.Cycle.{IsOnCycle}
 use Rattle.common_laws.specs.Graphs.{Needs, IsPath, last, more}
-use Rattle.component_cycle.specs.Search.{state, at, IsNotBefore, Reaches, IsKnown, settled, on_path, waits, looked_at, HasSource, IsRight, IsBelow, IsSound, IsCyclic, Steps, costs}
+use Rattle.component_cycle.specs.Search.{state, at, IsNotBefore, Reaches, IsKnown, settled, on_path, waits, looked_at, HasSource, IsRight, IsBelow, IsSound, IsCyclic, Lowers, costs}
 use Rattle.component_cycle.proofs.Reaches.{path-join, path-apart, path-keeps}
 use Rattle.component_cycle.proofs.Joins.{rising-front, rising-last, last-greatest}
 
@@ -32,7 +32,7 @@ module _ (needs : List (List ℕ)) (s : Search) (h : IsSound needs s None) (ms :
 
   -- a target of a node in the group is settled, or in the group
   need : (i w : ℕ) → m.place ≤ i → i < length s.path → Needs needs (at s i) w
-      → ((b : Bool) × (state s w ≡ Settled b)) ⊎ ((p : ℕ) × (m.place ≤ p) × (p < length s.path) × (at s p ≡ w))
+      → ((b : Bool) × (state s w ≡ Finished b)) ⊎ ((p : ℕ) × (m.place ≤ p) × (p < length s.path) × (at s p ≡ w))
   need i w from l edge =
       elim (h.known i w l edge) [
         | settled b k ↦ inl (b, k)
@@ -65,7 +65,7 @@ module _ (needs : List (List ℕ)) (s : Search) (h : IsSound needs s None) (ms :
       ]
 
   IsSettled : ℕ → Type 0
-  IsSettled w = (b : Bool) × (state s w ≡ Settled b)
+  IsSettled w = (b : Bool) × (state s w ≡ Finished b)
 
   settled-keeps : (u v : ℕ) → IsSettled u → Needs needs u v → IsSettled v
   unfolding IsSettled
@@ -73,7 +73,7 @@ module _ (needs : List (List ℕ)) (s : Search) (h : IsSound needs s None) (ms :
 
   not-settled : (i : ℕ) → i < length s.path → IsSettled (at s i) → ⊥
   unfolding IsSettled
-  not-settled i l k = let both : OnPath i ≡ Settled k.0 = sym (h.standing i l) ∙ k.1 in cc both
+  not-settled i l k = let both : OnPath i ≡ Finished k.0 = sym (h.standing i l) ∙ k.1 in cc both
 
   alone-first : (w : ℕ) → m.place + 1 ≡ length s.path → Needs needs (at s m.place) w → IsSettled w ⊎ (w ≡ at s m.place)
   unfolding IsSettled
@@ -118,7 +118,7 @@ module _ (needs : List (List ℕ)) (s : Search) (h : IsSound needs s None) (ms :
         ]
 
     module _ (states : List State) (count : length states ≡ length s.states)
-        (set : (i : ℕ) → m.place ≤ i → i < length s.path → get_or states (at s i) Unseen ≡ Settled b)
+        (set : (i : ℕ) → m.place ≤ i → i < length s.path → get_or states (at s i) Unseen ≡ Finished b)
         (others : (u : ℕ) → ((i : ℕ) → m.place ≤ i → i < length s.path → at s i ≢ u) → get_or states u Unseen ≡ state s u) where
       abbrev t : Search
       t = record { states = states; path = take m.place s.path; waiting = s.waiting; marks = ms }
@@ -132,7 +132,7 @@ module _ (needs : List (List ℕ)) (s : Search) (h : IsSound needs s None) (ms :
           let out : (IsInGroup u → ⊥) → (IsInGroup u → ⊥) × (state t u ≡ state s u) = λ no. (no, others u (λ i from l is. no (i, from, l, is))) in
           elim (state s u) as (λ x. state s u ≡ x → IsInGroup u ⊎ ((IsInGroup u → ⊥) × (state t u ≡ state s u))) [
             | Unseen ↦ λ k. inr (out (λ g. let both : OnPath g.0 ≡ Unseen = sym (h.standing g.0 g.2) ∙ ap (state s) g.3 ∙ k in cc both))
-            | Settled d ↦ λ k. inr (out (λ g. let both : OnPath g.0 ≡ Settled d = sym (h.standing g.0 g.2) ∙ ap (state s) g.3 ∙ k in cc both))
+            | Finished d ↦ λ k. inr (out (λ g. let both : OnPath g.0 ≡ Finished d = sym (h.standing g.0 g.2) ∙ ap (state s) g.3 ∙ k in cc both))
             | OnPath i ↦ λ k. let place = h.placed u i k in
                 elim (cases_lt i m.place) [
                   | inr ge ↦ inl (i, ge, place.0, place.1)
@@ -142,9 +142,9 @@ module _ (needs : List (List ℕ)) (s : Search) (h : IsSound needs s None) (ms :
                 ]
           ] refl
 
-      in-state : (u : ℕ) → IsInGroup u → state t u ≡ Settled b
+      in-state : (u : ℕ) → IsInGroup u → state t u ≡ Finished b
       unfolding IsInGroup
-      in-state u g = subst (λ w. state t w ≡ Settled b) g.3 (set g.0 g.1 g.2)
+      in-state u g = subst (λ w. state t w ≡ Finished b) g.3 (set g.0 g.1 g.2)
 
       short : length t.path ≡ m.place
       short = length-take-le m.place s.path (omega (arith, group-starts))
@@ -153,19 +153,19 @@ module _ (needs : List (List ℕ)) (s : Search) (h : IsSound needs s None) (ms :
       at-front i l = get_or-take m.place s.path i 0 l
 
       -- a settled node keeps its state
-      kept-settled : (u : ℕ) (d : Bool) → state s u ≡ Settled d → state t u ≡ Settled d
+      kept-settled : (u : ℕ) (d : Bool) → state s u ≡ Finished d → state t u ≡ Finished d
       unfolding IsInGroup
       kept-settled u d k =
           elim (in-or-out u) [
             | inr out ↦ out.1 ∙ k
-            | inl g ↦ let both : OnPath g.0 ≡ Settled d = sym (h.standing g.0 g.2) ∙ ap (state s) g.3 ∙ k in absurd (cc both)
+            | inl g ↦ let both : OnPath g.0 ≡ Finished d = sym (h.standing g.0 g.2) ∙ ap (state s) g.3 ∙ k in absurd (cc both)
           ]
 
       placed : (u i : ℕ) → state t u ≡ OnPath i → (i < length t.path) × (at t i ≡ u)
       unfolding IsInGroup
       placed u i k =
           elim (in-or-out u) [
-            | inl g ↦ let both : Settled b ≡ OnPath i = sym (in-state u g) ∙ k in absurd (cc both)
+            | inl g ↦ let both : Finished b ≡ OnPath i = sym (in-state u g) ∙ k in absurd (cc both)
             | inr out ↦
                 let place = h.placed u i (sym out.1 ∙ k) in
                 elim (cases_lt i m.place) [
@@ -193,7 +193,7 @@ module _ (needs : List (List ℕ)) (s : Search) (h : IsSound needs s None) (ms :
       standing : (i : ℕ) → i < length t.path → state t (at t i) ≡ OnPath i
       standing i l = ap (state t) (at-front i (below i l)) ∙ standing-front i (below i l)
 
-      closed : (u w : ℕ) (d : Bool) → state t u ≡ Settled d → Needs needs u w → (c : Bool) × (state t w ≡ Settled c)
+      closed : (u w : ℕ) (d : Bool) → state t u ≡ Finished d → Needs needs u w → (c : Bool) × (state t w ≡ Finished c)
       unfolding IsInGroup
       closed u w d k edge =
           elim (in-or-out u) [
@@ -204,12 +204,12 @@ module _ (needs : List (List ℕ)) (s : Search) (h : IsSound needs s None) (ms :
             | inr out ↦ let old = h.closed u w d (sym out.1 ∙ k) edge in (old.0, kept-settled w old.0 old.1)
           ]
 
-      right : (u : ℕ) (d : Bool) → state t u ≡ Settled d → IsRight needs u d
+      right : (u : ℕ) (d : Bool) → state t u ≡ Finished d → IsRight needs u d
       unfolding IsInGroup
       right u d k =
           elim (in-or-out u) [
             | inl g ↦
-                let both : Settled b ≡ Settled d = sym (in-state u g) ∙ k in
+                let both : Finished b ≡ Finished d = sym (in-state u g) ∙ k in
                 let same : b ≡ d = cc both in
                 subst (λ x. IsRight needs u x) same (subst (λ w. IsRight needs w b) g.3 (group-right g.0 g.1 g.2))
             | inr out ↦ h.right u d (sym out.1 ∙ k)
@@ -256,7 +256,7 @@ module _ (needs : List (List ℕ)) (s : Search) (h : IsSound needs s None) (ms :
           let place = h.placed w p k in
           elim (cases_lt p m.place) [
             | inl less ↦ on_path p (subst (λ u. state t u ≡ OnPath p) place.1 (standing-front p less)) (λ x c le. f x (in-old x c) le)
-            | inr ge ↦ settled b (subst (λ u. state t u ≡ Settled b) place.1 (set p ge place.0))
+            | inr ge ↦ settled b (subst (λ u. state t u ≡ Finished b) place.1 (set p ge place.0))
           ]
 
       source : (l : ℕ) → l < length s.waiting → HasSource needs t l
@@ -291,7 +291,7 @@ module _ (needs : List (List ℕ)) (s : Search) (h : IsSound needs s None) (ms :
       pub closed-seen : (u : ℕ) → state s u ≢ Unseen → state t u ≢ Unseen
       closed-seen u ne k =
           elim (in-or-out u) [
-            | inl g ↦ let both : Settled b ≡ Unseen = sym (in-state u g) ∙ k in cc both
+            | inl g ↦ let both : Finished b ≡ Unseen = sym (in-state u g) ∙ k in cc both
             | inr out ↦ ne (sym out.1 ∙ k)
           ]
 
@@ -330,13 +330,13 @@ module _ (needs : List (List ℕ)) (s : Search) (h : IsSound needs s None) (ms :
         (low, node-at (i - m.place) 0 low ∙ ap (at s) (omega (arith, from)))
 
     module _ (b : Bool) (cyclic : IsCyclic needs group b) (states : List State) (count : length states ≡ length s.states)
-        (set : (k : ℕ) → k < length group → get_or states (get_or group k 0) Unseen ≡ Settled b)
+        (set : (k : ℕ) → k < length group → get_or states (get_or group k 0) Unseen ≡ Finished b)
         (others : (v : ℕ) → (Contains group v → ⊥) → get_or states v Unseen ≡ state s v)
         (spent : (graph : List (List ℕ)) → length s.states ≡ length graph → ((k : ℕ) → k < length group → state s (get_or group k 0) ≢ Unseen) → costs graph states ≡ costs graph s.states) where
-      set-on-path : (i : ℕ) → m.place ≤ i → i < length s.path → get_or states (at s i) Unseen ≡ Settled b
+      set-on-path : (i : ℕ) → m.place ≤ i → i < length s.path → get_or states (at s i) Unseen ≡ Finished b
       set-on-path i from l =
           let place = place-in i from l in
-          subst (λ v. get_or states v Unseen ≡ Settled b) place.1 (set (i - m.place) place.0)
+          subst (λ v. get_or states v Unseen ≡ Finished b) place.1 (set (i - m.place) place.0)
 
       others-outside : (u : ℕ) → ((i : ℕ) → m.place ≤ i → i < length s.path → at s i ≢ u) → get_or states u Unseen ≡ state s u
       others-outside u outside = others u (λ k. outside (m.place + k.0) (omega arith) (in-path k.0 k.1) (sym (node-at k.0 u k.1) ∙ k.2))
@@ -344,7 +344,7 @@ module _ (needs : List (List ℕ)) (s : Search) (h : IsSound needs s None) (ms :
       cyclic-here : IsCyclic needs (drop m.place s.path) b
       cyclic-here = subst (λ g. IsCyclic needs g b) is cyclic
 
-      pub closed-steps : Steps needs s (record { states = states; path = take m.place s.path; waiting = s.waiting; marks = ms })
+      pub closed-steps : Lowers needs s (record { states = states; path = take m.place s.path; waiting = s.waiting; marks = ms })
       closed-steps =
           record {
             sound = closed-sound b cyclic-here states count set-on-path others-outside;

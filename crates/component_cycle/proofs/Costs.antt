@@ -1,7 +1,7 @@
 -- The remaining work falls when a node is first seen.
 use Rattle.std.proofs.Common.{◌≡◌, ◌≢◌, ℕ, zero, suc, ◌+◌, ◌<◌, List, [], ◌∷◌, length, get_or, set, refl, arith}
 use Rattle.component_cycle.specs.declared.search.State.{State}
-use Rattle.component_cycle.specs.declared.search.State.TheVariants.{Unseen, OnPath, Settled}
+use Rattle.component_cycle.specs.declared.search.State.TheVariants.{Unseen, OnPath, Finished}
 use Rattle.component_cycle.specs.Search.{cost, costs}
 
 pub costs-set : (needs : List (List ℕ)) (states : List State) (v : ℕ) (x : State) → v < length needs → length states ≡ length needs
@@ -17,4 +17,4 @@ costs-set (ns ∷ needs) (y ∷ states) (suc v) x h e =
 pub cost-seen : (ns : List ℕ) (x : State) → x ≢ Unseen → cost ns x ≡ 0
 cost-seen ns Unseen h = absurd (h refl)
 cost-seen ns (OnPath i) h = refl
-cost-seen ns (Settled b) h = refl
+cost-seen ns (Finished b) h = refl

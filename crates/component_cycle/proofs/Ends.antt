@@ -6,12 +6,12 @@ use borrow.Author.Tests.{lt-ltb}
 use Rattle.std.proofs.lemmas.Bool.{cases_lt, false≢true, true_from_ne_false}
 use Rattle.std.proofs.lemmas.List.{get_or_past, length-replicate, get_or-replicate}
 use Rattle.std.proofs.lemmas.List.Quantifiers.{position-Some}
-use Rattle.component_cycle.specs.declared.search.State.TheVariants.{Unseen, OnPath, Settled}
+use Rattle.component_cycle.specs.declared.search.State.TheVariants.{Unseen, OnPath, Finished}
 use Rattle.component_cycle.specs.declared.search.Search.{Search}
 use Rattle.component_cycle.specs.Cycle.{IsOnCycle, IsFirstOnCycle}
 use Rattle.common_laws.specs.Lists.{contains-none}
 use Rattle.common_laws.specs.Graphs.{IsPath, Needs, last, more, needs_within}
-use Rattle.component_cycle.specs.Search.{state, IsSound, Leads, is_on_cycle}
+use Rattle.component_cycle.specs.Search.{state, IsSound, AllReach, is_on_cycle}
 
 abbrev pub start : ℕ → Search
 start n = record { states = replicate n Unseen; path = []; waiting = []; marks = [] }
@@ -30,8 +30,8 @@ start-sound needs =
       count = length-replicate n Unseen;
       placed = λ u i k. let both : Unseen ≡ OnPath i = sym (start-unseen n u) ∙ k in absurd (cc both);
       standing = λ i l. absurd (omega (arith, l));
-      closed = λ u v b k edge. let both : Unseen ≡ Settled b = sym (start-unseen n u) ∙ k in absurd (cc both);
-      right = λ u b k. let both : Unseen ≡ Settled b = sym (start-unseen n u) ∙ k in absurd (cc both);
+      closed = λ u v b k edge. let both : Unseen ≡ Finished b = sym (start-unseen n u) ∙ k in absurd (cc both);
+      right = λ u b k. let both : Unseen ≡ Finished b = sym (start-unseen n u) ∙ k in absurd (cc both);
       marked = λ m c. absurd (contains-none m c);
       rising = λ i j d less below. absurd (omega (arith, below));
       covered = λ i l. absurd (omega (arith, l));
@@ -53,7 +53,7 @@ module _ (needs : List (List ℕ)) (s : Search) (h : IsSound needs s None) (idle
   pub no-path : (i : ℕ) → i < length s.path → ⊥
   no-path i l = let one = h.covered i l in contains-none one.0 (subst (λ ms. Contains ms one.0) idle one.1)
 
-  pub root-leads : (v : ℕ) → Leads needs s v
+  pub root-leads : (v : ℕ) → AllReach needs s v
   root-leads v i l = absurd (no-path i l)
 
   pub root-sound : (v : ℕ) → IsSound needs s (Some v)
@@ -74,12 +74,12 @@ module _ (needs : List (List ℕ)) (s : Search) (h : IsSound needs s None) (idle
       }
 
   module _ (seen : (v : ℕ) → v < length needs → state s v ≢ Unseen) where
-    all-settled : (v : ℕ) → v < length needs → (b : Bool) × (state s v ≡ Settled b)
+    all-settled : (v : ℕ) → v < length needs → (b : Bool) × (state s v ≡ Finished b)
     all-settled v l =
-        elim (state s v) as (λ x. state s v ≡ x → (b : Bool) × (state s v ≡ Settled b)) [
+        elim (state s v) as (λ x. state s v ≡ x → (b : Bool) × (state s v ≡ Finished b)) [
           | Unseen ↦ λ k. absurd (seen v l k)
           | OnPath i ↦ λ k. absurd (no-path i (h.placed v i k).0)
-          | Settled b ↦ λ k. (b, k)
+          | Finished b ↦ λ k. (b, k)
         ] refl
 
     first-edge : (u v : ℕ) → IsPath (Needs needs) u v → u < length needs
@@ -97,7 +97,7 @@ module _ (needs : List (List ℕ)) (s : Search) (h : IsSound needs s None) (idle
         elim (state s u) as (λ x. state s u ≡ x → IsOnCycle needs u) [
           | Unseen ↦ λ e. absurd (false≢true (sym (ap is_on_cycle e) ∙ k))
           | OnPath i ↦ λ e. absurd (false≢true (sym (ap is_on_cycle e) ∙ k))
-          | Settled b ↦ λ e. (h.right u b e).cycle (sym (ap is_on_cycle e) ∙ k)
+          | Finished b ↦ λ e. (h.right u b e).cycle (sym (ap is_on_cycle e) ∙ k)
         ] refl
 
     pub first-is : (found : Option ℕ) → found ≡ position is_on_cycle s.states → IsFirstOnCycle needs found

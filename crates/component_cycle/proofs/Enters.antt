@@ -6,14 +6,14 @@ use Rattle.std.proofs.lemmas.List.{get_or_append_left, get_or-append-add, get_or
 use Rattle.std.proofs.lemmas.List.Quantifiers.{all_pairs_push}
 use Rattle.std.proofs.lemmas.List.Elements.{Contains-push, Contains-push_cases, Contains-append_left, Contains-get_or}
 use Rattle.component_cycle.specs.declared.search.State.{State}
-use Rattle.component_cycle.specs.declared.search.State.TheVariants.{Unseen, OnPath, Settled}
+use Rattle.component_cycle.specs.declared.search.State.TheVariants.{Unseen, OnPath, Finished}
 use Rattle.component_cycle.specs.declared.search.Mark.{Mark}
 use Rattle.component_cycle.specs.declared.search.Search.{Search}
 use Rattle.common_laws.specs.Graphs.{Needs}
-use Rattle.component_cycle.specs.Search.{state, at, IsNotBefore, Reaches, IsKnown, settled, on_path, waits, looked_at, HasSource, IsRight, IsBelow, IsSound, Leads, Follows, entered, cost, to_do}
+use Rattle.component_cycle.specs.Search.{state, at, IsNotBefore, Reaches, IsKnown, settled, on_path, waits, looked_at, HasSource, IsRight, IsBelow, IsSound, AllReach, DoesNotRaise, entered, cost, to_do}
 use Rattle.component_cycle.proofs.Costs.{costs-set}
 
-module _ (needs : List (List ℕ)) (s : Search) (v : ℕ) (h : IsSound needs s (Some v)) (unseen : state s v ≡ Unseen) (inside : v < length needs) (leads : Leads needs s v) where
+module _ (needs : List (List ℕ)) (s : Search) (v : ℕ) (h : IsSound needs s (Some v)) (unseen : state s v ≡ Unseen) (inside : v < length needs) (leads : AllReach needs s v) where
   abbrev t : Search
   t = entered needs v s
 
@@ -48,7 +48,7 @@ module _ (needs : List (List ℕ)) (s : Search) (v : ℕ) (h : IsSound needs s (
   on-apart : (i : ℕ) → OnPath i ≢ Unseen
   on-apart i e = cc e
 
-  settled-apart : (b : Bool) → Settled b ≢ Unseen
+  settled-apart : (b : Bool) → Finished b ≢ Unseen
   settled-apart b e = cc e
 
   placed : (u i : ℕ) → state t u ≡ OnPath i → (i < length t.path) × (at t i ≡ u)
@@ -72,17 +72,17 @@ module _ (needs : List (List ℕ)) (s : Search) (v : ℕ) (h : IsSound needs s (
         | inr new ↦ ap (state t) (ap (at t) new ∙ at-new) ∙ state-here ∙ ap OnPath (sym new)
       ]
 
-  was-settled : (u : ℕ) (b : Bool) → state t u ≡ Settled b → state s u ≡ Settled b
+  was-settled : (u : ℕ) (b : Bool) → state t u ≡ Finished b → state s u ≡ Finished b
   was-settled u b e =
       elim (cases_eq u v) [
-        | inl same ↦ let both : OnPath n ≡ Settled b = sym state-here ∙ ap (state t) (sym same) ∙ e in absurd (cc both)
+        | inl same ↦ let both : OnPath n ≡ Finished b = sym state-here ∙ ap (state t) (sym same) ∙ e in absurd (cc both)
         | inr ne ↦ sym (state-other u ne) ∙ e
       ]
 
-  closed : (u w : ℕ) (b : Bool) → state t u ≡ Settled b → Needs needs u w → (d : Bool) × (state t w ≡ Settled d)
+  closed : (u w : ℕ) (b : Bool) → state t u ≡ Finished b → Needs needs u w → (d : Bool) × (state t w ≡ Finished d)
   closed u w b e edge =
       let old = h.closed u w b (was-settled u b e) edge in
-      (old.0, kept w (Settled old.0) old.1 (settled-apart old.0))
+      (old.0, kept w (Finished old.0) old.1 (settled-apart old.0))
 
   waiting-longer : length s.waiting ≤ length t.waiting
   waiting-longer = omega (arith, length-append s.waiting (get_or needs v []))
@@ -141,7 +141,7 @@ module _ (needs : List (List ℕ)) (s : Search) (v : ℕ) (h : IsSound needs s (
 
   -- the targets of nodes that were on the path before
   known-old : (i w : ℕ) → i < n → IsKnown s (Some v) i w → IsKnown t None i w
-  known-old i w l (settled b e) = settled b (kept w (Settled b) e (settled-apart b))
+  known-old i w l (settled b e) = settled b (kept w (Finished b) e (settled-apart b))
   known-old i w l (on_path p e k) = on_path p (kept w (OnPath p) e (on-apart p)) (not-before-old i p l k)
   known-old i w l (waits x lx e k) =
       waits x (omega (arith, lx, waiting-longer)) (get_or_append_left s.waiting (get_or needs v []) 0 x lx ∙ e)
@@ -214,7 +214,7 @@ module _ (needs : List (List ℕ)) (s : Search) (v : ℕ) (h : IsSound needs s (
             }
       ]
 
-  right : (u : ℕ) (b : Bool) → state t u ≡ Settled b → IsRight needs u b
+  right : (u : ℕ) (b : Bool) → state t u ≡ Finished b → IsRight needs u b
   right u b e = h.right u b (was-settled u b e)
 
   pub entered-sound : IsSound needs t None
@@ -243,7 +243,7 @@ module _ (needs : List (List ℕ)) (s : Search) (v : ℕ) (h : IsSound needs s (
       let was : cost (get_or needs v []) (state s v) ≡ length (get_or needs v []) + 2 = ap (cost (get_or needs v [])) unseen in
       omega (arith, set, was, waiting-length, length_push s.marks mark)
 
-  pub entered-follows : Follows needs s t
+  pub entered-follows : DoesNotRaise needs s t
   entered-follows = record { sound = entered-sound; seen = entered-seen; less = omega (arith, entered-less) }
 
   pub entered-root : state t v ≢ Unseen

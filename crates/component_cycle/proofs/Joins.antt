@@ -4,11 +4,11 @@ use Rattle.std.specs.List.{Contains, AllPairs}
 use Rattle.std.proofs.lemmas.Bool.{cases_lt}
 use Rattle.std.proofs.lemmas.List.{get_or_append_left, get_or_push, length_push, same_from_push}
 use Rattle.std.proofs.lemmas.List.Elements.{Contains-push, Contains-push_cases, Contains-append_left}
-use Rattle.component_cycle.specs.declared.search.State.TheVariants.{OnPath, Settled}
+use Rattle.component_cycle.specs.declared.search.State.TheVariants.{OnPath, Finished}
 use Rattle.component_cycle.specs.declared.search.Mark.{Mark}
 use Rattle.component_cycle.specs.declared.search.Search.{Search}
 use Rattle.common_laws.specs.Graphs.{Needs, IsPath, last as one_edge}
-use Rattle.component_cycle.specs.Search.{state, at, IsNotBefore, Reaches, IsKnown, settled, on_path, waits, looked_at, HasSource, IsBelow, IsSound, HasLast, Leads}
+use Rattle.component_cycle.specs.Search.{state, at, IsNotBefore, Reaches, IsKnown, settled, on_path, waits, looked_at, HasSource, IsBelow, IsSound, HasLast, AllReach}
 use Rattle.component_cycle.proofs.Reaches.{reaches-path, path-reaches}
 
 -- marks without the last one
@@ -45,7 +45,7 @@ with_marks s ms = record { states = s.states; path = s.path; waiting = s.waiting
 abbrev pub with_waiting : Search → List ℕ → Search
 with_waiting s waiting = record { states = s.states; path = s.path; waiting = waiting; marks = s.marks }
 
-module _ (needs : List (List ℕ)) (s : Search) (v p : ℕ) (h : IsSound needs s (Some v)) (leads : Leads needs s v) (here : state s v ≡ OnPath p) where
+module _ (needs : List (List ℕ)) (s : Search) (v p : ℕ) (h : IsSound needs s (Some v)) (leads : AllReach needs s v) (here : state s v ≡ OnPath p) where
   module _ (ms : List Mark) (m : Mark) (e : s.marks ≡ ms ++ m ∷ []) (later : p < m.place) where
     abbrev t : Search
     t = with_marks s ms
@@ -150,7 +150,7 @@ module _ (needs : List (List ℕ)) (s : Search) (v p : ℕ) (h : IsSound needs s
       omega (arith, top.0, low)
 
 -- the target of the edge is settled
-module _ (needs : List (List ℕ)) (s : Search) (v : ℕ) (h : IsSound needs s (Some v)) (b : Bool) (here : state s v ≡ Settled b) where
+module _ (needs : List (List ℕ)) (s : Search) (v : ℕ) (h : IsSound needs s (Some v)) (b : Bool) (here : state s v ≡ Finished b) where
   known-settled : (i w : ℕ) → IsKnown s (Some v) i w → IsKnown s None i w
   known-settled i w (settled d k) = settled d k
   known-settled i w (on_path q k f) = on_path q k f
@@ -241,7 +241,7 @@ module _ (needs : List (List ℕ)) (s : Search) (h : IsSound needs s None) (ms :
             (λ x c le. let from : m.place ≤ source.place = (source.same_group m last-mark).1 some in omega (arith, (greatest x c).0, from))
       ]
 
-  pub looked-leads : Leads needs popped v
+  pub looked-leads : AllReach needs popped v
   looked-leads i l = reaches-path needs (at s i) (at s source.place) v (to-source i l) (one_edge edge)
 
   pub looked-edge : (u : ℕ) × Needs needs u v

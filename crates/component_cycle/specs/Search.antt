@@ -2,7 +2,7 @@
 use Rattle.std.specs.Prelude.{◌≡◌, ◌≢◌, ◌↔◌, ◌⊎◌, ℕ, ◌+◌, ◌<◌, ◌≤◌, Bool, true, false, List, [], ◌∷◌, ◌++◌, length, Option, Some, None, IsTrue, Contains, slice_index, slice_index_or, slice_set}
 use Rattle.std.specs.List.{AllPairs}
 use Rattle.component_cycle.specs.declared.search.State.{State}
-use Rattle.component_cycle.specs.declared.search.State.TheVariants.{Unseen, OnPath, Settled}
+use Rattle.component_cycle.specs.declared.search.State.TheVariants.{Unseen, OnPath, Finished}
 use Rattle.component_cycle.specs.declared.search.Mark.{Mark}
 use Rattle.component_cycle.specs.declared.search.Search.{Search}
 use Rattle.component_cycle.specs.Cycle.{IsOnCycle}
@@ -35,7 +35,7 @@ Reaches needs u v = (u ≡ v) ⊎ IsPath (Needs needs) u v
 -- a target v of the node at place i is settled, is on the path no earlier than the group of i, waits, or is the target
 -- of the current edge
 pub data IsKnown (s : Search) (loose : Option ℕ) (i v : ℕ) : Type 0 where
-  settled : (b : Bool) → state s v ≡ Settled b → IsKnown s loose i v
+  settled : (b : Bool) → state s v ≡ Finished b → IsKnown s loose i v
   on_path : (p : ℕ) → state s v ≡ OnPath p → IsNotBefore s i p → IsKnown s loose i v
   waits : (l : ℕ) → l < length s.waiting → slice_index s.waiting l ≡ v → ((m : Mark) → Contains s.marks m → m.place ≤ i → m.waiting ≤ l) → IsKnown s loose i v
   looked_at : loose ≡ Some v → IsKnown s loose i v
@@ -61,8 +61,8 @@ pub record IsSound (needs : List (List ℕ)) (s : Search) (loose : Option ℕ) :
   pub count : length s.states ≡ length needs
   pub placed : (u i : ℕ) → state s u ≡ OnPath i → (i < length s.path) × (at s i ≡ u)
   pub standing : (i : ℕ) → i < length s.path → state s (at s i) ≡ OnPath i
-  pub closed : (u v : ℕ) (b : Bool) → state s u ≡ Settled b → Needs needs u v → (d : Bool) × (state s v ≡ Settled d)
-  pub right : (u : ℕ) (b : Bool) → state s u ≡ Settled b → IsRight needs u b
+  pub closed : (u v : ℕ) (b : Bool) → state s u ≡ Finished b → Needs needs u v → (d : Bool) × (state s v ≡ Finished d)
+  pub right : (u : ℕ) (b : Bool) → state s u ≡ Finished b → IsRight needs u b
   pub marked : (m : Mark) → Contains s.marks m → (m.place < length s.path) × (m.waiting ≤ length s.waiting)
   pub rising : AllPairs IsBelow s.marks
   pub covered : (i : ℕ) → i < length s.path → (m : Mark) × Contains s.marks m × (m.place ≤ i)
@@ -72,8 +72,8 @@ pub record IsSound (needs : List (List ℕ)) (s : Search) (loose : Option ℕ) :
   pub source : (l : ℕ) → l < length s.waiting → HasSource needs s l
 
 -- a path leads from each node of the path to v
-abbrev pub Leads : List (List ℕ) → Search → ℕ → Type 0
-Leads needs s v = (i : ℕ) → i < length s.path → IsPath (Needs needs) (at s i) v
+abbrev pub AllReach : List (List ℕ) → Search → ℕ → Type 0
+AllReach needs s v = (i : ℕ) → i < length s.path → IsPath (Needs needs) (at s i) v
 
 -- v is appended to the path as a group of its own, and its targets wait
 abbrev pub entered : List (List ℕ) → ℕ → Search → Search
@@ -87,7 +87,7 @@ entered needs v s =
 
 -- these nodes are settled
 abbrev pub AreSettled : List ℕ → Bool → List State → Type 0
-AreSettled nodes on_cycle states = (i : ℕ) → i < length nodes → slice_index_or states (slice_index nodes i) Unseen ≡ Settled on_cycle
+AreSettled nodes on_cycle states = (i : ℕ) → i < length nodes → slice_index_or states (slice_index nodes i) Unseen ≡ Finished on_cycle
 
 -- the state of no other node changes
 abbrev pub OthersStay : List ℕ → List State → List State → Type 0
@@ -97,7 +97,7 @@ OthersStay nodes old new = (v : ℕ) → (Contains nodes v → ⊥) → slice_in
 abbrev pub cost : List ℕ → State → ℕ
 cost ns Unseen = length ns + 2
 cost ns (OnPath i) = 0
-cost ns (Settled b) = 0
+cost ns (Finished b) = 0
 
 -- the remaining work for all nodes
 abbrev pub costs : List (List ℕ) → List State → ℕ
@@ -116,18 +116,18 @@ pub record GoesOn (needs : List (List ℕ)) (s t : Search) (bound : ℕ) : Type 
   pub less : to_do needs t < bound
 
 -- a step that lowers the measure
-abbrev pub Steps : List (List ℕ) → Search → Search → Type 0
-Steps needs s t = GoesOn needs s t (to_do needs s)
+abbrev pub Lowers : List (List ℕ) → Search → Search → Type 0
+Lowers needs s t = GoesOn needs s t (to_do needs s)
 
 -- a step that doesn't raise the measure
-abbrev pub Follows : List (List ℕ) → Search → Search → Type 0
-Follows needs s t = GoesOn needs s t (to_do needs s + 1)
+abbrev pub DoesNotRaise : List (List ℕ) → Search → Search → Type 0
+DoesNotRaise needs s t = GoesOn needs s t (to_do needs s + 1)
 
 -- whether a node is settled and lies on a cycle
 abbrev pub is_on_cycle : State → Bool
 is_on_cycle Unseen = false
 is_on_cycle (OnPath i) = false
-is_on_cycle (Settled b) = b
+is_on_cycle (Finished b) = b
 
 -- whether the nodes of a component lie on cycles
 pub record IsCyclic (needs : List (List ℕ)) (group : List ℕ) (b : Bool) : Type 0 where

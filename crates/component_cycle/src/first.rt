@@ -14,7 +14,7 @@ pub fn first_on_cycle(alloc: Global, needs: &[List<usize>]) -> Result<Option<usi
 {
     let mut search = Search::new(alloc, needs.len())?;
     for root in 0..needs.len() {
-        search.settle(needs, root)?;
+        search.finish(needs, root)?;
     }
     Ok(search.first_on_cycle())
 }

@@ -6,7 +6,7 @@ ghost use Rattle.std.specs.Prelude.{◌≡◌, ◌≢◌, ◌≤◌, ◌<◌, �
 ghost use Rattle.component_cycle.specs.declared.search.State.{State};
 ghost use Rattle.component_cycle.specs.declared.search.Mark.{Mark};
 ghost use Rattle.common_laws.specs.Graphs.{IsGraph};
-ghost use Rattle.component_cycle.specs.Search.{IsSound, IsLast, HasLast, Follows, Leads, entered, costs, state, Steps, IsCyclic, is_on_cycle, AreSettled, OthersStay, SeenCostNothing};
+ghost use Rattle.component_cycle.specs.Search.{IsSound, IsLast, HasLast, DoesNotRaise, AllReach, entered, costs, state, Lowers, IsCyclic, is_on_cycle, AreSettled, OthersStay, SeenCostNothing};
 
 use plan_types::{List, NoMemory};
 use std::alloc::Global;
@@ -18,7 +18,7 @@ pub(crate) enum State {
     /// On the path, at this place.
     OnPath(usize),
     /// Its component is complete; whether the node lies on a cycle.
-    Settled(bool),
+    Finished(bool),
 }
 
 /// The start of a group on the path, and of its targets in `waiting`.
@@ -75,7 +75,7 @@ impl Search {
     }
 
     /// Settles a node and all nodes that it reaches.
-    pub(crate) fn settle(&mut self, needs: &[List<usize>], root: usize) -> Result<(), NoMemory>
+    pub(crate) fn finish(&mut self, needs: &[List<usize>], root: usize) -> Result<(), NoMemory>
         requires graph { IsGraph needs.now }
         requires root { root < length needs.now }
         requires sound { IsSound needs.now self.old None }
@@ -102,7 +102,7 @@ impl Search {
         match self.states.as_slice()[node] {
             State::Unseen => true,
             State::OnPath(_) => false,
-            State::Settled(_) => false,
+            State::Finished(_) => false,
         }
     }
 
@@ -128,7 +128,7 @@ impl Search {
         requires graph { IsGraph needs.now }
         requires sound { IsSound needs.now self.old None }
         requires mark { IsLast self.old.marks mark }
-        ensures { OnOk result (Steps needs.now self.old self.new) }
+        ensures { OnOk result (Lowers needs.now self.old self.new) }
     {
         if self.waiting.len() <= mark.waiting {
             self.close(needs, mark);
@@ -143,9 +143,9 @@ impl Search {
     // Takes an edge from the last group to a node. If the node is on the path, merges the groups from its own on.
     fn look_at(&mut self, needs: &[List<usize>], node: usize) -> Result<(), NoMemory>
         requires sound { IsSound needs.now self.old (Some node) }
-        requires leads { Leads needs.now self.old node }
+        requires leads { AllReach needs.now self.old node }
         requires node { node < length needs.now }
-        ensures { OnOk result (Follows needs.now self.old self.new) }
+        ensures { OnOk result (DoesNotRaise needs.now self.old self.new) }
     {
         match self.states.as_slice()[node] {
             State::Unseen => self.enter(needs, node),
@@ -155,7 +155,7 @@ impl Search {
                 }
                 Ok(())
             }
-            State::Settled(_) => Ok(()),
+            State::Finished(_) => Ok(()),
         }
     }
 
@@ -164,11 +164,11 @@ impl Search {
         requires sound { IsSound needs.now self.old None }
         requires mark { IsLast self.old.marks mark }
         requires none { length self.old.waiting ≤ mark.waiting }
-        ensures { Steps needs.now self.old self.new }
+        ensures { Lowers needs.now self.old self.new }
     {
         let group = behind(&self.path, mark.place);
         let on_cycle = is_cyclic(needs, group);
-        settle_all(&mut self.states, group, on_cycle);
+        finish_all(&mut self.states, group, on_cycle);
         self.path.truncate(mark.place);
         self.marks.pop();
     }
@@ -198,7 +198,7 @@ fn is_on_cycle(state: State) -> bool
     match state {
         State::Unseen => false,
         State::OnPath(_) => false,
-        State::Settled(on_cycle) => on_cycle,
+        State::Finished(on_cycle) => on_cycle,
     }
 }
 
@@ -213,7 +213,7 @@ fn is_cyclic(needs: &[List<usize>], group: &[usize]) -> bool
     }
 }
 
-fn settle_all(states: &mut List<State>, nodes: &[usize], on_cycle: bool)
+fn finish_all(states: &mut List<State>, nodes: &[usize], on_cycle: bool)
     requires inside { All (λ v. v < length states.old) nodes.now }
     ensures count { length states.new ≡ length states.old }
     ensures settled { AreSettled nodes.now on_cycle states.new }
@@ -221,7 +221,7 @@ fn settle_all(states: &mut List<State>, nodes: &[usize], on_cycle: bool)
     ensures costs { SeenCostNothing nodes.now states.old states.new }
 {
     for node in nodes {
-        states.set(*node, State::Settled(on_cycle));
+        states.set(*node, State::Finished(on_cycle));
     }
 }
 

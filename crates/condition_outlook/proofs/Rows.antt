@@ -16,17 +16,17 @@ use Rattle.conditionals.specs.declared.value.Tri.{Tri}
 use Rattle.conditionals.specs.declared.value.Tri.TheVariants.{Yes, No, Unknown}
 use Rattle.conditionals.proofs.Holding.{some_path_holds}
 use Rattle.condition_outlook.specs.Known.{AreKnown, IsKnown}
-use Rattle.condition_outlook.specs.declared.known.Known.{Known}
+use Rattle.condition_outlook.specs.declared.known.Facts.{Facts}
 
 -- ---- by their places
 
-pub known-push : (env : Env) (conds : List Cond) (items : List Known) (cond : Cond) (known : Known) → AreKnown env conds items → IsKnown env cond known → AreKnown env (conds ++ cond ∷ []) (items ++ known ∷ [])
+pub known-push : (env : Env) (conds : List Cond) (items : List Facts) (cond : Cond) (known : Facts) → AreKnown env conds items → IsKnown env cond known → AreKnown env (conds ++ cond ∷ []) (items ++ known ∷ [])
 known-push env [] [] cond known all is = (is, tt)
 known-push env [] (first ∷ items) cond known all is = absurd all
 known-push env (c ∷ conds) [] cond known all is = absurd all
 known-push env (c ∷ conds) (first ∷ items) cond known all is = (all.0, known-push env conds items cond known all.1 is)
 
-pub known-at : (env : Env) (conds : List Cond) (items : List Known) (i : ℕ) (known : Known) → AreKnown env conds items → i < length items → known ≡ get_or items i known → IsKnown env (numbered conds i) known
+pub known-at : (env : Env) (conds : List Cond) (items : List Facts) (i : ℕ) (known : Facts) → AreKnown env conds items → i < length items → known ≡ get_or items i known → IsKnown env (numbered conds i) known
 known-at env [] [] i known all within is = absurd (omega (arith, within))
 known-at env [] (first ∷ items) i known all within is = absurd all
 known-at env (c ∷ conds) [] i known all within is = absurd all
@@ -34,27 +34,27 @@ known-at env (c ∷ conds) (first ∷ items) zero known all within is = subst (I
 known-at env (c ∷ conds) (first ∷ items) (suc i) known all within is = known-at env conds items i known all.1 (omega (arith, within)) is
 
 -- later conditions change nothing
-pub numbered-front : (env : Env) (conds more : List Cond) (items : List Known) (i : ℕ) → AreKnown env conds items → i < length items → numbered (conds ++ more) i ≡ numbered conds i
+pub numbered-front : (env : Env) (conds more : List Cond) (items : List Facts) (i : ℕ) → AreKnown env conds items → i < length items → numbered (conds ++ more) i ≡ numbered conds i
 numbered-front env [] more [] i all within = absurd (omega (arith, within))
 numbered-front env [] more (first ∷ items) i all within = absurd all
 numbered-front env (c ∷ conds) more [] i all within = absurd all
 numbered-front env (c ∷ conds) more (first ∷ items) zero all within = refl
 numbered-front env (c ∷ conds) more (first ∷ items) (suc i) all within = numbered-front env conds more items i all.1 (omega (arith, within))
 
-pub numbered-next : (env : Env) (conds more : List Cond) (items : List Known) (cond : Cond) → AreKnown env conds items → numbered (conds ++ cond ∷ more) (length items) ≡ cond
+pub numbered-next : (env : Env) (conds more : List Cond) (items : List Facts) (cond : Cond) → AreKnown env conds items → numbered (conds ++ cond ∷ more) (length items) ≡ cond
 numbered-next env [] more [] cond all = refl
 numbered-next env [] more (first ∷ items) cond all = absurd all
 numbered-next env (c ∷ conds) more [] cond all = absurd all
 numbered-next env (c ∷ conds) more (first ∷ items) cond all = numbered-next env conds more items cond all.1
 
 -- the next condition has its numbers
-pub within-next : (env : Env) (conds more : List Cond) (items : List Known) (cond : Cond) → AreKnown env conds items → length items < length (map (numbers_of env) (conds ++ cond ∷ more))
+pub within-next : (env : Env) (conds more : List Cond) (items : List Facts) (cond : Cond) → AreKnown env conds items → length items < length (map (numbers_of env) (conds ++ cond ∷ more))
 within-next env [] more [] cond all = omega arith
 within-next env [] more (first ∷ items) cond all = absurd all
 within-next env (c ∷ conds) more [] cond all = absurd all
 within-next env (c ∷ conds) more (first ∷ items) cond all = let next = within-next env conds more items cond all.1 in omega (arith, next)
 
-pub counted-next : (env : Env) (conds more : List Cond) (items : List Known) (cond : Cond) (numbers : Numbers) → AreKnown env conds items → numbers ≡ get_or (map (numbers_of env) (conds ++ cond ∷ more)) (length items) numbers → numbers ≡ numbers_of env cond
+pub counted-next : (env : Env) (conds more : List Cond) (items : List Facts) (cond : Cond) (numbers : Numbers) → AreKnown env conds items → numbers ≡ get_or (map (numbers_of env) (conds ++ cond ∷ more)) (length items) numbers → numbers ≡ numbers_of env cond
 counted-next env [] more [] cond numbers all is = is
 counted-next env [] more (first ∷ items) cond numbers all is = absurd all
 counted-next env (c ∷ conds) more [] cond numbers all is = absurd all

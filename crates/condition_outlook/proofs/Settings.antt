@@ -15,9 +15,9 @@ use Rattle.std.proofs.lemmas.Bool.{and_parts, eqb-true}
 use Rattle.std.proofs.lemmas.List.Folds.{list_all-append}
 use Rattle.std.proofs.lemmas.Option.{same_Some}
 use Rattle.plan_types.specs.declared.condition.FlagSet.{FlagSet}
-use Rattle.conditionals.specs.Paths.{Path, says, is_same, holds}
+use Rattle.conditionals.specs.Paths.{Path, has_setting, is_same, holds}
 use Rattle.conditionals.specs.Value.{Flags}
-use Rattle.condition_outlook.specs.Settled.{AreEntries, AreSaid, IsSaid}
+use Rattle.condition_outlook.specs.Settled.{AreEntries, HaveEntries, HasEntries}
 
 same-on : (is on : Bool) → is_same is on ≡ true → is ≡ on
 same-on true true e = refl
@@ -25,13 +25,13 @@ same-on true false e = absurd (cc e)
 same-on false true e = absurd (cc e)
 same-on false false e = refl
 
-as-said : (known : Option Bool) (on : Bool) → says known on ≡ true → known ≡ Some on
+as-said : (known : Option Bool) (on : Bool) → has_setting known on ≡ true → known ≡ Some on
 as-said None on e = absurd (cc e)
 as-said (Some is) on e = ap Some (same-on is on e)
 
-says-so : (known : Option Bool) (on : Bool) → known ≡ Some on → says known on ≡ true
-says-so known true e = ap (λ k. says k true) e
-says-so known false e = ap (λ k. says k false) e
+has_setting-so : (known : Option Bool) (on : Bool) → known ≡ Some on → has_setting known on ≡ true
+has_setting-so known true e = ap (λ k. has_setting k true) e
+has_setting-so known false e = ap (λ k. has_setting k false) e
 
 -- a flag has only one setting
 pub one-setting : (known : Option Bool) (is on : Bool) → known ≡ Some is → known ≡ Some on → is ≡ on
@@ -44,15 +44,15 @@ holds-at flags (t ∷ path) (suc i) s all within is = holds-at flags path i s (a
 
 pub holds-push : (flags : Flags) (path : Path) (s : FlagSet) → holds flags path ≡ true → flags s.name ≡ Some s.on → holds flags (path ++ s ∷ []) ≡ true
 holds-push flags path s all is =
-    list_all-append (λ t. says (flags t.name) t.on) path (s ∷ [])
-    ∙ (λ i. all i && (says-so (flags s.name) s.on is i && true))
+    list_all-append (λ t. has_setting (flags t.name) t.on) path (s ∷ [])
+    ∙ (λ i. all i && (has_setting-so (flags s.name) s.on is i && true))
 
-pub said-at : (flags : Flags) (maps : List (BTreeMap (List ℕ) Bool)) (i : ℕ) (map : BTreeMap (List ℕ) Bool) → AreSaid flags maps → i < length maps → map ≡ slice_index_or maps i map → IsSaid flags map
+pub said-at : (flags : Flags) (maps : List (BTreeMap (List ℕ) Bool)) (i : ℕ) (map : BTreeMap (List ℕ) Bool) → HaveEntries flags maps → i < length maps → map ≡ slice_index_or maps i map → HasEntries flags map
 said-at flags [] i map all within is = absurd (omega (arith, within))
-said-at flags (first ∷ maps) zero map all within is = subst (IsSaid flags) (sym is) all.0
+said-at flags (first ∷ maps) zero map all within is = subst (HasEntries flags) (sym is) all.0
 said-at flags (first ∷ maps) (suc i) map all within is = said-at flags maps i map all.1 (omega (arith, within)) is
 
-pub said-push : (flags : Flags) (maps : List (BTreeMap (List ℕ) Bool)) (map : BTreeMap (List ℕ) Bool) → AreSaid flags maps → IsSaid flags map → AreSaid flags (maps ++ map ∷ [])
+pub said-push : (flags : Flags) (maps : List (BTreeMap (List ℕ) Bool)) (map : BTreeMap (List ℕ) Bool) → HaveEntries flags maps → HasEntries flags map → HaveEntries flags (maps ++ map ∷ [])
 said-push flags [] map all is = (is, tt)
 said-push flags (first ∷ maps) map all is = (all.0, said-push flags maps map all.1 is)
 
@@ -99,6 +99,6 @@ the-only flags (first ∷ next ∷ paths) path some one is = absurd (omega (arit
 
 -- ---- the last of some maps
 
-pub said-front : (flags : Flags) (maps rest : List (BTreeMap (List ℕ) Bool)) → AreSaid flags (maps ++ rest) → AreSaid flags maps × AreSaid flags rest
+pub said-front : (flags : Flags) (maps rest : List (BTreeMap (List ℕ) Bool)) → HaveEntries flags (maps ++ rest) → HaveEntries flags maps × HaveEntries flags rest
 said-front flags [] rest all = (tt, all)
 said-front flags (first ∷ maps) rest all = let more = said-front flags maps rest all.1 in ((all.0, more.0), more.1)

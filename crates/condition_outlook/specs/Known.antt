@@ -9,7 +9,7 @@ use Rattle.conditionals.specs.Paths.{Path, holds}
 use Rattle.conditionals.specs.Value.{Flags, value}
 use Rattle.conditionals.specs.declared.value.Tri.TheVariants.{Yes}
 use Rattle.condition_outlook.specs.Settled.{AreSet}
-use Rattle.condition_outlook.specs.declared.known.Known.{Known}
+use Rattle.condition_outlook.specs.declared.known.Facts.{Facts}
 
 -- whether a row is `Own`
 abbrev pub has_tests : Row → Bool
@@ -28,16 +28,16 @@ is_own rows (Own cond) = true
 is_own rows (Negated inner) = has_tests_at (slice_get rows inner)
 is_own rows (Both front last) = false
 
--- the facts allow these flags: `never` is false, and the flags have the settings
-pub record IsMet (flags : Flags) (known : Known) : Type 0 where
-  pub never : IsFalse known.never
+-- the facts allow these flags: `known_impossible` is false, and the flags have the settings
+pub record Allows (flags : Flags) (known : Facts) : Type 0 where
+  pub known_impossible : IsFalse known.known_impossible
   pub settled : AreSet flags known.settled
 
 -- the facts about a condition are right: they allow all flags under which it is Yes
-abbrev pub IsKnown : Env → Cond → Known → Type 0
-IsKnown env cond known = (flags : Flags) → value env flags cond ≡ Yes → IsMet flags known
+abbrev pub IsKnown : Env → Cond → Facts → Type 0
+IsKnown env cond known = (flags : Flags) → value env flags cond ≡ Yes → Allows flags known
 
-abbrev pub AreKnown : Env → List Cond → List Known → Type 0
+abbrev pub AreKnown : Env → List Cond → List Facts → Type 0
 AreKnown env [] [] = Unit {0}
 AreKnown env [] (known ∷ all) = ⊥
 AreKnown env (cond ∷ conds) [] = ⊥

@@ -7,10 +7,10 @@ use Rattle.conditionals.specs.Value.{Flags, value}
 use Rattle.conditionals.specs.declared.value.Tri.TheVariants.{Yes}
 use Rattle.condition_outlook.specs.declared.outlook.Outlook.{Outlook}
 
--- an outlook is right: it has the number of paths, and a condition that is Yes under some flags has no `never`
+-- an outlook is right: it has the number of paths, and a condition that is Yes under some flags has no `known_impossible`
 pub record IsOutlook (env : Env) (cond : Cond) (outlook : Outlook) : Type 0 where
   pub number : outlook.number ≡ (numbers_of env cond).yes
-  pub never : (flags : Flags) → value env flags cond ≡ Yes → IsFalse outlook.never
+  pub known_impossible : (flags : Flags) → value env flags cond ≡ Yes → IsFalse outlook.known_impossible
 
 abbrev pub AreOutlooks : Env → List Cond → List Outlook → Type 0
 AreOutlooks env [] [] = Unit {0}

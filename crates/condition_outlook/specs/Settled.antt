@@ -4,21 +4,21 @@ use Rattle.std.specs.BTreeMap.{BTreeMap}
 use Rattle.std.specs.List.{AllByRecursion}
 use Rattle.conditionals.specs.Paths.{holds}
 use Rattle.conditionals.specs.Value.{Flags}
-use Rattle.condition_outlook.specs.declared.settled.Settled.{Settled}
+use Rattle.condition_outlook.specs.declared.settled.FlagSettings.{FlagSettings}
 
 -- flags have these settings
 abbrev pub AreEntries : Flags → List (List ℕ × Bool) → Type 0
 AreEntries flags = AllByRecursion (λ entry. flags entry.0 ≡ Some entry.1)
 
 -- flags have the settings of a map
-abbrev pub IsSaid : Flags → BTreeMap (List ℕ) Bool → Type 0
-IsSaid flags said = AreEntries flags said.entries
+abbrev pub HasEntries : Flags → BTreeMap (List ℕ) Bool → Type 0
+HasEntries flags said = AreEntries flags said.entries
 
-abbrev pub AreSaid : Flags → List (BTreeMap (List ℕ) Bool) → Type 0
-AreSaid flags [] = Unit {0}
-AreSaid flags (said ∷ maps) = IsSaid flags said × AreSaid flags maps
+abbrev pub HaveEntries : Flags → List (BTreeMap (List ℕ) Bool) → Type 0
+HaveEntries flags [] = Unit {0}
+HaveEntries flags (said ∷ maps) = HasEntries flags said × HaveEntries flags maps
 
 -- flags have these settings
-pub record AreSet (flags : Flags) (settled : Settled) : Type 0 where
-  pub shared : AreSaid flags settled.shared
+pub record AreSet (flags : Flags) (settled : FlagSettings) : Type 0 where
+  pub shared : HaveEntries flags settled.shared
   pub recent : holds flags settled.recent ≡ true

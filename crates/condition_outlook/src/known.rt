@@ -6,30 +6,30 @@ ghost use Rattle.plan_types.specs.declared.condition.Cond.{Cond};
 ghost use Rattle.conditionals.specs.Count.{numbers_of};
 ghost use Rattle.conditionals.specs.Paths.{holds};
 ghost use Rattle.conditionals.specs.Value.{Flags};
-ghost use Rattle.condition_outlook.specs.Known.{AreKnown, ArePathsOf, IsKnown, IsMet, OneHolds, is_own};
+ghost use Rattle.condition_outlook.specs.Known.{AreKnown, ArePathsOf, IsKnown, Allows, OneHolds, is_own};
 ghost use Rattle.condition_outlook.specs.Settled.{AreSet};
 
-use crate::settled::Settled;
+use crate::settled::FlagSettings;
 use conditionals::{MOST_PATHS, Numbers, paths};
 use plan_types::{Conditions, Env, FlagSet, List, NoMemory, Row};
 use std::alloc::Global;
 
 /// Facts about a condition.
 #[derive(Drop)]
-pub struct Known {
+pub struct Facts {
     /// The condition is never Yes. False if this isn't known.
-    pub never: bool,
+    pub known_impossible: bool,
     /// Settings that flags have whenever the condition is Yes.
-    settled: Settled,
+    settled: FlagSettings,
 }
 
-impl Known {
-    fn unknown(alloc: Global) -> Known
-        ensures { (flags : Flags) → IsMet flags result }
+impl Facts {
+    fn unknown(alloc: Global) -> Facts
+        ensures { (flags : Flags) → Allows flags result }
     {
-        Known {
-            never: false,
-            settled: Settled::new(alloc),
+        Facts {
+            known_impossible: false,
+            settled: FlagSettings::new(alloc),
         }
     }
 }
@@ -39,10 +39,10 @@ pub fn known_of(
     alloc: Global,
     conds: &Conditions,
     numbers: &[Numbers],
-    all: &[Known],
+    all: &[Facts],
     row: &Row,
     env: &Env,
-) -> Result<Known, NoMemory>
+) -> Result<Facts, NoMemory>
     requires { numbers.now ≡ map (numbers_of env.now) conds.now }
     ensures { IfOk result (λ known. (before more : List Cond) → AreKnown env.now before all.now
         → conds.now ≡ before ++ cond_of before row.now ∷ more → IsKnown env.now (cond_of before row.now) known) }
@@ -50,7 +50,7 @@ pub fn known_of(
     match row {
         Row::Both(front, last) => {
             let (Some(first), Some(second)) = (all.get(*front), all.get(*last)) else {
-                return Ok(Known::unknown(alloc));
+                return Ok(Facts::unknown(alloc));
             };
             let paths = own_paths(alloc, conds, numbers, *last, env)?;
             both(alloc, first, second, &paths)
@@ -79,24 +79,24 @@ fn is_own(rows: &[Row], row: &Row) -> bool
 }
 
 // Facts about a condition with these paths; none if the paths aren't known.
-fn own(alloc: Global, paths: &Option<List<List<FlagSet>>>) -> Result<Known, NoMemory>
-    ensures { IfOk result (λ known. (flags : Flags) → OneHolds flags paths.now → IsMet flags known) }
+fn own(alloc: Global, paths: &Option<List<List<FlagSet>>>) -> Result<Facts, NoMemory>
+    ensures { IfOk result (λ known. (flags : Flags) → OneHolds flags paths.now → Allows flags known) }
 {
     match paths {
         Some(paths) => by_paths(alloc, paths.as_slice()),
-        None => Ok(Known::unknown(alloc)),
+        None => Ok(Facts::unknown(alloc)),
     }
 }
 
-fn by_paths(alloc: Global, paths: &[List<FlagSet>]) -> Result<Known, NoMemory>
-    ensures { IfOk result (λ known. (flags : Flags) → list_any (holds flags) paths.now ≡ true → IsMet flags known) }
+fn by_paths(alloc: Global, paths: &[List<FlagSet>]) -> Result<Facts, NoMemory>
+    ensures { IfOk result (λ known. (flags : Flags) → list_any (holds flags) paths.now ≡ true → Allows flags known) }
 {
-    let mut settled = Settled::new(alloc);
+    let mut settled = FlagSettings::new(alloc);
     if paths.len() == 1 {
-        settled.learn(alloc, paths[0].as_slice())?;
+        settled.add(alloc, paths[0].as_slice())?;
     }
-    Ok(Known {
-        never: paths.is_empty(),
+    Ok(Facts {
+        known_impossible: paths.is_empty(),
         settled,
     })
 }
@@ -104,24 +104,24 @@ fn by_paths(alloc: Global, paths: &[List<FlagSet>]) -> Result<Known, NoMemory>
 // Facts about `&&` of two conditions; the paths are those of the second, if they are known.
 fn both(
     alloc: Global,
-    first: &Known,
-    second: &Known,
+    first: &Facts,
+    second: &Facts,
     paths: &Option<List<List<FlagSet>>>,
-) -> Result<Known, NoMemory>
-    ensures { IfOk result (λ known. (flags : Flags) → IsMet flags first.now → IsMet flags second.now → OneHolds flags paths.now
-        → IsMet flags known) }
+) -> Result<Facts, NoMemory>
+    ensures { IfOk result (λ known. (flags : Flags) → Allows flags first.now → Allows flags second.now → OneHolds flags paths.now
+        → Allows flags known) }
 {
     let (settled, fits) = joined(alloc, &first.settled, &second.settled)?;
     let some = allows_one(&first.settled, paths);
-    Ok(Known {
-        never: first.never || second.never || !fits || !some,
+    Ok(Facts {
+        known_impossible: first.known_impossible || second.known_impossible || !fits || !some,
         settled,
     })
 }
 
 // The settings of both sides, and whether they agree. If both sides are long, only the latest settings of the first are
 // used, at most 64.
-fn joined(alloc: Global, first: &Settled, second: &Settled) -> Result<(Settled, bool), NoMemory>
+fn joined(alloc: Global, first: &FlagSettings, second: &FlagSettings) -> Result<(FlagSettings, bool), NoMemory>
     ensures { IfOk result (λ both. (flags : Flags) → AreSet flags first.now → AreSet flags second.now → AreSet flags both.0 × IsTrue both.1) }
 {
     if second.is_short() {
@@ -131,16 +131,16 @@ fn joined(alloc: Global, first: &Settled, second: &Settled) -> Result<(Settled, 
     }
 }
 
-fn added(alloc: Global, long: &Settled, short: &Settled) -> Result<(Settled, bool), NoMemory>
+fn added(alloc: Global, long: &FlagSettings, short: &FlagSettings) -> Result<(FlagSettings, bool), NoMemory>
     ensures { IfOk result (λ both. (flags : Flags) → AreSet flags long.now → AreSet flags short.now → AreSet flags both.0 × IsTrue both.1) }
 {
     let mut settled = long.copy(alloc)?;
-    let fits = settled.learn(alloc, short.recent())?;
+    let fits = settled.add(alloc, short.recent())?;
     Ok((settled, fits))
 }
 
 // Whether some path doesn't contradict the settings; true if the paths aren't known.
-fn allows_one(settled: &Settled, paths: &Option<List<List<FlagSet>>>) -> bool
+fn allows_one(settled: &FlagSettings, paths: &Option<List<List<FlagSet>>>) -> bool
     ensures { (flags : Flags) → AreSet flags settled.now → OneHolds flags paths.now → IsTrue result }
 {
     match paths {
@@ -149,7 +149,7 @@ fn allows_one(settled: &Settled, paths: &Option<List<List<FlagSet>>>) -> bool
     }
 }
 
-fn allows_some(settled: &Settled, paths: &[List<FlagSet>]) -> bool
+fn allows_some(settled: &FlagSettings, paths: &[List<FlagSet>]) -> bool
     ensures { (flags : Flags) → AreSet flags settled.now → list_any (holds flags) paths.now ≡ true → IsTrue result }
 {
     for path in paths {

@@ -13,7 +13,7 @@ pub struct Outlook {
     /// The number of its paths for true, at most 2^64 - 1.
     pub number: u64,
     /// The condition is never Yes. False if this isn't known.
-    pub never: bool,
+    pub known_impossible: bool,
 }
 
 /// The outlook of each condition in a table, row by row.
@@ -28,7 +28,7 @@ pub fn outlooks(alloc: Global, conds: &Conditions, env: &Env) -> Result<Vec<Outl
         let known = known_of(alloc, conds, &numbers, &before, row, env)?;
         all.push(Outlook {
             number: numbers[before.len()].yes,
-            never: known.never,
+            known_impossible: known.known_impossible,
         })?;
         before.push(known)?;
     }

@@ -2,7 +2,7 @@
 ghost use Rattle.std.specs.Prelude.{◌≡◌, ◌↔◌, ◌∷◌, [], true, Some, IfOk, OnOk, IfSome, IsTrue};
 ghost use Rattle.conditionals.specs.Paths.{holds};
 ghost use Rattle.conditionals.specs.Value.{Flags};
-ghost use Rattle.condition_outlook.specs.Settled.{AreSet, AreSaid};
+ghost use Rattle.condition_outlook.specs.Settled.{AreSet, HaveEntries};
 
 use plan_types::{FlagSet, List, NoMemory, Shared, Text};
 use std::alloc::Global;
@@ -12,7 +12,7 @@ use std::collections::BTreeMap;
 const MOST_RECENT: usize = 64;
 
 /// Settings of flags. A copy shares most of them with its original.
-pub struct Settled {
+pub struct FlagSettings {
     /// The earlier settings, in shared maps.
     shared: List<Shared<BTreeMap<Text, bool>>>,
     /// The latest settings, at most 64.
@@ -20,30 +20,30 @@ pub struct Settled {
 }
 
 // Explicit, so that it is proved once: a derived one is expanded at each exit.
-impl Drop for Settled {
+impl Drop for FlagSettings {
     fn drop(self) {
-        let Settled {
+        let FlagSettings {
             shared: _shared,
             recent: _recent,
         } = self;
     }
 }
 
-impl Settled {
+impl FlagSettings {
     /// No settings.
-    pub fn new(alloc: Global) -> Settled
+    pub fn new(alloc: Global) -> FlagSettings
         ensures { (flags : Flags) → AreSet flags result }
     {
-        Settled {
+        FlagSettings {
             shared: List::new(alloc),
             recent: List::new(alloc),
         }
     }
 
-    pub fn copy(&self, alloc: Global) -> Result<Settled, NoMemory>
+    pub fn copy(&self, alloc: Global) -> Result<FlagSettings, NoMemory>
         ensures { IfOk result (λ copied. copied ≡ self.now) }
     {
-        Ok(Settled {
+        Ok(FlagSettings {
             shared: copied_maps(alloc, self.shared.as_slice())?,
             recent: copied_settings(alloc, self.recent.as_slice())?,
         })
@@ -88,7 +88,7 @@ impl Settled {
     }
 
     /// Adds settings. Returns false at the first that contradicts a known one.
-    pub fn learn(&mut self, alloc: Global, settings: &[FlagSet]) -> Result<bool, NoMemory>
+    pub fn add(&mut self, alloc: Global, settings: &[FlagSet]) -> Result<bool, NoMemory>
         ensures learnt { OnOk result ((flags : Flags) → AreSet flags self.old → holds flags settings.now ≡ true → AreSet flags self.new) }
         ensures fits { IfOk result (λ fits. (flags : Flags) → AreSet flags self.old → holds flags settings.now ≡ true → IsTrue fits) }
     {
@@ -176,7 +176,7 @@ fn get_recent(recent: &[FlagSet], name: &Text) -> Option<bool>
 }
 
 fn get_shared(shared: &[Shared<BTreeMap<Text, bool>>], name: &Text) -> Option<bool>
-    ensures { IfSome result (λ on. (flags : Flags) → AreSaid flags shared.now → flags name.now ≡ Some on) }
+    ensures { IfSome result (λ on. (flags : Flags) → HaveEntries flags shared.now → flags name.now ≡ Some on) }
 {
     for map in shared {
         if let Some(on) = map.get().get(name) {
@@ -187,7 +187,7 @@ fn get_shared(shared: &[Shared<BTreeMap<Text, bool>>], name: &Text) -> Option<bo
 }
 
 fn map_of(alloc: Global, settings: &[FlagSet]) -> Result<BTreeMap<Text, bool>, NoMemory>
-    ensures { IfOk result (λ map. (flags : Flags) → holds flags settings.now ≡ true → AreSaid flags (map ∷ [])) }
+    ensures { IfOk result (λ map. (flags : Flags) → holds flags settings.now ≡ true → HaveEntries flags (map ∷ [])) }
 {
     let mut map = BTreeMap::new(alloc);
     for setting in settings {
@@ -197,7 +197,7 @@ fn map_of(alloc: Global, settings: &[FlagSet]) -> Result<BTreeMap<Text, bool>, N
 }
 
 fn add_all(map: &mut BTreeMap<Text, bool>, more: &BTreeMap<Text, bool>) -> Result<(), NoMemory>
-    ensures { OnOk result ((flags : Flags) → AreSaid flags (map.old ∷ more.now ∷ []) → AreSaid flags (map.new ∷ [])) }
+    ensures { OnOk result ((flags : Flags) → HaveEntries flags (map.old ∷ more.now ∷ []) → HaveEntries flags (map.new ∷ [])) }
 {
     for (name, on) in more.iter() {
         map.insert(name.copy()?, *on)?;

@@ -20,7 +20,7 @@ use Rattle.version_range.proofs.RangeKind.{decimals, range_kind}
 use Rattle.version_range.proofs.NoBraces.{is_plain, Plain, plain_append, plain_parts, stands_plain}
 use Rattle.version_range.proofs.Whole.{wider_stands}
 use Rattle.condition_text.specs.Grammar.{Versions, versions, WiderVersions, deeper, broken}
-use Rattle.condition_text.specs.Reading.{cond_cause, told, tail_at, cond_tail}
+use Rattle.condition_text.specs.Reading.{cond_cause, with_cond_causes, tail_at, cond_tail}
 use Rattle.condition_text.proofs.CondKind.{no_bytes, cond_kind, ends_none, apart, no_digit_stands}
 use Rattle.condition_text.proofs.Tails.{tail_reads, tail_read, tail_fault}
 
@@ -168,13 +168,13 @@ module _ (spec : Spec) where
     told_read text r rest h = by (tail_at spec n text) refl
       where
         by : (o : Result (Range × List ℕ) Cause) → tail_at spec n text ≡ o → tail_at spec n text ≡ Ok (r, rest)
-        by (Ok p) q = q ∙ sym (ap told q) ∙ h
-        by (Err cause) q = absurd (cc (h, ap told q))
+        by (Ok p) q = q ∙ sym (ap with_cond_causes q) ∙ h
+        by (Err cause) q = absurd (cc (h, ap with_cond_causes q))
 
     cond_reads : Reads no_bytes (Versions spec n) (cond_tail spec n)
     cond_reads = record {
       read = λ text r rest h. let got = tail_read spec n text r rest (told_read text r rest h) in record { front = got.front; whole = got.whole; is = got.is; apart = apart got.front rest };
-      reads = λ text r rest l a. ap told (tail_reads spec n text r rest l);
+      reads = λ text r rest l a. ap with_cond_causes (tail_reads spec n text r rest l);
     }
 
     viable_front : (text : List ℕ) (cause : Cause) (f : TailFault n text cause) (others : List ℕ) → f.rest ≡ 123 ∷ others → errs (tail_at spec (suc n) text) ≡ true → Viable spec n f.front
@@ -277,12 +277,12 @@ module _ (spec : Spec) where
     narrow_dead front rest dead again head = by (tail_at spec n (front ++ again)) refl
       where
         by : (o : Result (Range × List ℕ) Cause) → tail_at spec n (front ++ again) ≡ o → errs (cond_tail spec n (front ++ again)) ≡ true
-        by (Err cause) q = ap (λ o. errs (told o)) q
+        by (Err cause) q = ap (λ o. errs (with_cond_causes o)) q
         by (Ok p) q =
             let got = tail_read spec n (front ++ again) p.0 p.1 q in
             absurd (false≢true (sym (ap errs (tail_reads spec (suc n) got.front p.0 p.1 (wider_versions n got.front p.0 got.is))) ∙ ap (λ t. errs (tail_at spec (suc n) t)) (sym got.whole) ∙ dead again head))
 
-    told_errs : {A : Type 0} (o : Result A Cause) → errs o ≡ true → errs (told o) ≡ true
+    told_errs : {A : Type 0} (o : Result A Cause) → errs o ≡ true → errs (with_cond_causes o) ≡ true
     told_errs (Ok x) h = h
     told_errs (Err cause) h = refl
 
@@ -352,10 +352,10 @@ module _ (spec : Spec) where
     cond_fault text cause h = by (tail_at spec n text) refl
       where
         by : (o : Result (Range × List ℕ) Cause) → tail_at spec n text ≡ o → Fault (cond_kind spec) (Versions spec n) (WiderVersions spec n) (cond_tail spec n) (wide_tail spec n) text cause
-        by (Ok p) q = absurd (cc (h, ap told q))
+        by (Ok p) q = absurd (cc (h, ap with_cond_causes q))
         by (Err why) q =
             let f = tail_fault spec n text why q in
-            let is : cond_cause why ≡ cause = cc (h, ap told q) in
+            let is : cond_cause why ≡ cause = cc (h, ap with_cond_causes q) in
             subst (Fault (cond_kind spec) (Versions spec n) (WiderVersions spec n) (cond_tail spec n) (wide_tail spec n) text) is
             (record {
               front = f.front;

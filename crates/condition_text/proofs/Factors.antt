@@ -18,7 +18,7 @@ use Rattle.text_grammar.proofs.Closings.{Closed, closed, closing, closed_reads, 
 use Rattle.text_grammar.proofs.Operands.{Rules}
 use Rattle.text_grammar.proofs.TwoChains.{AfterTerms, close_follows, after_instead, terms_rules, wider_terms, terms_fault}
 use Rattle.text_grammar.proofs.Letters.{Reads, Pair}
-use Rattle.condition_text.specs.Grammar.{Versions, WiderVersions, Atom, always, Factor, atom, negated, opened, Opened}
+use Rattle.condition_text.specs.Grammar.{Versions, WiderVersions, Atom, always, Factor, atom, negated, inner_factor, InnerFactor}
 use Rattle.condition_text.specs.Reading.{atom_at, factor_at, opened_at, cond_tail, condition_at}
 use Rattle.condition_text.proofs.CondKind.{no_bytes, cond_kind, ends_none, apart, no_digit_stands}
 use Rattle.condition_text.proofs.CondTails.{wide_tail}
@@ -42,7 +42,7 @@ module _ (P : Reader Range) (Q : Reader Cond) (spec : Spec) where
       ∙ ap (λ (o : Option (List ℕ)). elim o [ Some rest ↦ valued Not (Q (skip_blanks rest)) | None ↦ atom_at P text ]) (byte_gone 33 text bang)
 
 enclosed : {T : List ℕ → Range → Type 0} {O : List ℕ → Cond → Type 0} {text : List ℕ} {c : Cond} → Closed 41 (Terms And Or O) text c → Factor T O (40 ∷ text) c
-enclosed {T = T} {O = O} {c = c} (closed text after is all) = subst (λ t. Factor T O (40 ∷ t) c) (append_assoc text after (41 ∷ [])) (opened text after is all)
+enclosed {T = T} {O = O} {c = c} (closed text after is all) = subst (λ t. Factor T O (40 ∷ t) c) (append_assoc text after (41 ∷ [])) (inner_factor text after is all)
 
 after_bang : {T : List ℕ → Range → Type 0} {O : List ℕ → Cond → Type 0} {text : List ℕ} {c : Cond} → Led O text c → Factor T O (33 ∷ text) (Not c)
 after_bang (led blanks are is) = negated blanks are is
@@ -50,7 +50,7 @@ after_bang (led blanks are is) = negated blanks are is
 never_factor : (T : List ℕ → Range → Type 0) (O : List ℕ → Cond → Type 0) (test : ℕ → Bool) → test 40 ≡ false → test 33 ≡ false → Never test (Atom T) → Never test (Factor T O)
 never_factor T O test paren bang none text c (atom a) = none text c a
 never_factor T O test paren bang none text c (negated blanks {text = t} are l) = (33, blanks ++ t, refl, bang)
-never_factor T O test paren bang none text c (opened t after l are) = (40, (t ++ after) ++ codes ")", refl, paren)
+never_factor T O test paren bang none text c (inner_factor t after l are) = (40, (t ++ after) ++ codes ")", refl, paren)
 
 no_blank_atom : (T : List ℕ → Range → Type 0) → Never is_blank (Atom T)
 no_blank_atom T = no_atom T is_blank refl refl refl refl refl refl refl refl refl refl
@@ -79,7 +79,7 @@ module _ (spec : Spec) (T : List ℕ → Range → Type 0) (P : Reader Range) (a
           at_bang P Q spec ((blanks ++ t) ++ rest)
           ∙ ap (λ u. valued Not (Q u)) (ap skip_blanks (append_assoc blanks t rest) ∙ skip_over blanks (t ++ rest) are (never_starts is_blank O unblank t d l rest))
           ∙ ap (valued Not) (o.reads t d rest l (apart t rest))
-      reads text c rest (opened t after l are) e =
+      reads text c rest (inner_factor t after l are) e =
           ap (λ u. factor_at P Q (40 ∷ (u ++ rest))) (append_assoc t after (41 ∷ []))
           ∙ at_paren P Q spec ((t ++ (after ++ 41 ∷ [])) ++ rest)
           ∙ closed_reads (cond_kind spec) 41 refl refl (Terms And Or O) (AfterTerms (cond_kind spec) refl refl refl) (terms_at And Or (miss (cond_kind spec)) Q) rules.reads
@@ -110,26 +110,26 @@ module _ (spec : Spec) (T : List ℕ → Range → Type 0) (P : Reader Range) (a
 -- ---- at each depth
 
 module _ (T : List ℕ → Range → Type 0) where
-  opened_unblank : (m : ℕ) → Never is_blank (Opened T m)
-  unfolding Opened
+  opened_unblank : (m : ℕ) → Never is_blank (InnerFactor T m)
+  unfolding InnerFactor
   opened_unblank zero text c l = absurd l
-  opened_unblank (suc m) text c l = never_factor T (Opened T m) is_blank refl refl (no_blank_atom T) text c l
+  opened_unblank (suc m) text c l = never_factor T (InnerFactor T m) is_blank refl refl (no_blank_atom T) text c l
 
   module _ (spec : Spec) (P : Reader Range) (atoms : Reads no_bytes (Atom T) (atom_at P)) where
-    opened_reads : (m : ℕ) → Reads no_bytes (Opened T m) (opened_at P m)
-    unfolding Opened opened_at
+    opened_reads : (m : ℕ) → Reads no_bytes (InnerFactor T m) (opened_at P m)
+    unfolding InnerFactor opened_at
     opened_reads zero = record { read = λ text c rest h. absurd (cc h); reads = λ text c rest l e. absurd l }
-    opened_reads (suc m) = factor_reads spec T P atoms (Opened T m) (opened_at P m) (opened_reads m) (opened_unblank m)
+    opened_reads (suc m) = factor_reads spec T P atoms (InnerFactor T m) (opened_at P m) (opened_reads m) (opened_unblank m)
 
-    pub factors_read : (m : ℕ) → Reads no_bytes (Factor T (Opened T m)) (factor_at P (opened_at P m))
-    factors_read m = factor_reads spec T P atoms (Opened T m) (opened_at P m) (opened_reads m) (opened_unblank m)
+    pub factors_read : (m : ℕ) → Reads no_bytes (Factor T (InnerFactor T m)) (factor_at P (opened_at P m))
+    factors_read m = factor_reads spec T P atoms (InnerFactor T m) (opened_at P m) (opened_reads m) (opened_unblank m)
 
-  pub factor_unblank : (m : ℕ) → Never is_blank (Factor T (Opened T m))
-  factor_unblank m = never_factor T (Opened T m) is_blank refl refl (no_blank_atom T)
+  pub factor_unblank : (m : ℕ) → Never is_blank (Factor T (InnerFactor T m))
+  factor_unblank m = never_factor T (InnerFactor T m) is_blank refl refl (no_blank_atom T)
 
 -- `true` is a factor at every depth
-true_opened : (T : List ℕ → Range → Type 0) (m : ℕ) → Opened T (suc m) (codes "true") Always
-unfolding Opened
+true_opened : (T : List ℕ → Range → Type 0) (m : ℕ) → InnerFactor T (suc m) (codes "true") Always
+unfolding InnerFactor
 true_opened T m = atom (always refl)
 
 module _ (spec : Spec) (n : ℕ) where
@@ -151,15 +151,15 @@ module _ (spec : Spec) (n : ℕ) where
   wider_factor : (O O' : List ℕ → Cond → Type 0) → ((text : List ℕ) (c : Cond) → O text c → O' text c) → (text : List ℕ) (c : Cond) → Factor V O text c → Factor V' O' text c
   wider_factor O O' w text c (atom a) = atom (atoms.wider text c a)
   wider_factor O O' w text c (negated blanks {text = t} {c = d} are l) = negated blanks are (w t d l)
-  wider_factor O O' w text c (opened t after l are) = opened t after (wider_terms (cond_kind spec) refl refl refl And Or O O' w t c l) are
+  wider_factor O O' w text c (inner_factor t after l are) = inner_factor t after (wider_terms (cond_kind spec) refl refl refl And Or O O' w t c l) are
 
-  wider_opened : (m : ℕ) (text : List ℕ) (c : Cond) → Opened V m text c → Opened V' (suc m) text c
-  unfolding Opened
+  wider_opened : (m : ℕ) (text : List ℕ) (c : Cond) → InnerFactor V m text c → InnerFactor V' (suc m) text c
+  unfolding InnerFactor
   wider_opened zero text c l = absurd l
-  wider_opened (suc m) text c l = wider_factor (Opened V m) (Opened V' (suc m)) (wider_opened m) text c l
+  wider_opened (suc m) text c l = wider_factor (InnerFactor V m) (InnerFactor V' (suc m)) (wider_opened m) text c l
 
-  pub wider_factors : (m : ℕ) (text : List ℕ) (c : Cond) → Factor V (Opened V m) text c → Factor V' (Opened V' (suc m)) text c
-  wider_factors m = wider_factor (Opened V m) (Opened V' (suc m)) (wider_opened m)
+  pub wider_factors : (m : ℕ) (text : List ℕ) (c : Cond) → Factor V (InnerFactor V m) text c → Factor V' (InnerFactor V' (suc m)) text c
+  wider_factors m = wider_factor (InnerFactor V m) (InnerFactor V' (suc m)) (wider_opened m)
 
   abbrev F : ℕ → Reader Cond
   F m = factor_at P (opened_at P m)
@@ -168,7 +168,7 @@ module _ (spec : Spec) (n : ℕ) where
   F' m = factor_at P' (opened_at P' (suc m))
 
   abbrev FactorFault : ℕ → List ℕ → Cause → Type 0
-  FactorFault m = Fault (cond_kind spec) (Factor V (Opened V m)) (Factor V' (Opened V' (suc m))) (F m) (F' m)
+  FactorFault m = Fault (cond_kind spec) (Factor V (InnerFactor V m)) (Factor V' (InnerFactor V' (suc m))) (F m) (F' m)
 
   -- an atom fails
   atom_fails : (m : ℕ) (text : List ℕ) (cause : Cause) → begins_with 40 text ≡ false → begins_with 33 text ≡ false → atom_at P text ≡ Err cause → FactorFault m text cause
@@ -176,9 +176,9 @@ module _ (spec : Spec) (n : ℕ) where
       let f = atoms.fault text cause h in
       let still : (byte : ℕ) → begins_with byte text ≡ false → (again : List ℕ) → Like no_bytes again f.rest → begins_with byte (f.front ++ again) ≡ false =
       λ byte other again like. begins_like no_bytes byte refl f.front f.rest again like (sym (ap (begins_with byte) f.whole) ∙ other) in
-      fault_up_like (cond_kind spec) (Atom V) (Atom V') (atom_at P) (atom_at P') (Factor V (Opened V m)) (Factor V' (Opened V' (suc m))) (F m) (F' m) []
-      (λ t c k. ([], c, subst (λ u. Factor V (Opened V m) u c) (sym (append-nil t)) (atom k)))
-      (λ t c k. ([], c, subst (λ u. Factor V' (Opened V' (suc m)) u c) (sym (append-nil t)) (atom k)))
+      fault_up_like (cond_kind spec) (Atom V) (Atom V') (atom_at P) (atom_at P') (Factor V (InnerFactor V m)) (Factor V' (InnerFactor V' (suc m))) (F m) (F' m) []
+      (λ t c k. ([], c, subst (λ u. Factor V (InnerFactor V m) u c) (sym (append-nil t)) (atom k)))
+      (λ t c k. ([], c, subst (λ u. Factor V' (InnerFactor V' (suc m)) u c) (sym (append-nil t)) (atom k)))
       text cause f refl
       (λ again like e. ap errs (at_atom P (opened_at P m) spec (f.front ++ again) (still 40 paren again like) (still 33 bang again like)) ∙ e)
       (λ again like e. ap errs (at_atom P' (opened_at P' (suc m)) spec (f.front ++ again) (still 40 paren again like) (still 33 bang again like)) ∙ e)
@@ -223,7 +223,7 @@ module _ (spec : Spec) (n : ℕ) where
         more = codes "true";
         value = Always;
         goes_on = atom (always refl);
-        why = wider 40 text refl refl (no_digit_stands (F' zero) []) (codes "true)") Always (opened (codes "true") [] (one (one (led [] refl (true_opened V' zero)))) refl)
+        why = wider 40 text refl refl (no_digit_stands (F' zero) []) (codes "true)") Always (inner_factor (codes "true") [] (one (one (led [] refl (true_opened V' zero)))) refl)
             (still_deep 40 text (λ again. ap errs (at_paren P (opened_at P zero) spec again ∙ deep_paren again)));
       })
 
@@ -245,14 +245,14 @@ module _ (spec : Spec) (n : ℕ) where
   -- ---- faults of inner factors
 
   abbrev OpenedFault : ℕ → List ℕ → Cause → Type 0
-  OpenedFault m = Fault (cond_kind spec) (Opened V m) (Opened V' (suc m)) (opened_at P m) (opened_at P' (suc m))
+  OpenedFault m = Fault (cond_kind spec) (InnerFactor V m) (InnerFactor V' (suc m)) (opened_at P m) (opened_at P' (suc m))
 
   module _ (m : ℕ) (fault : (text : List ℕ) (cause : Cause) → opened_at P (suc m) text ≡ Err cause → OpenedFault (suc m) text cause) where
     abbrev O : List ℕ → Cond → Type 0
-    O = Opened V (suc m)
+    O = InnerFactor V (suc m)
 
     abbrev O' : List ℕ → Cond → Type 0
-    O' = Opened V' (suc (suc m))
+    O' = InnerFactor V' (suc (suc m))
 
     abbrev Q : Reader Cond
     Q = opened_at P (suc m)
@@ -305,7 +305,7 @@ module _ (spec : Spec) (n : ℕ) where
         (λ again e. ap errs (at_bang P' Q' spec (f.front ++ again)) ∙ negated_errs (Q' (skip_blanks (f.front ++ again))) e)
 
   below : (m : ℕ) → ((text : List ℕ) (cause : Cause) → F m text ≡ Err cause → FactorFault m text cause) → (text : List ℕ) (cause : Cause) → opened_at P (suc m) text ≡ Err cause → OpenedFault (suc m) text cause
-  unfolding Opened opened_at
+  unfolding InnerFactor opened_at
   below m fault = fault
 
   -- the faults of a factor with at most m open are those of its parts
@@ -315,19 +315,19 @@ module _ (spec : Spec) (n : ℕ) where
 
   -- ---- whole conditions
 
-  pub cond_rules : (m : ℕ) → Rules (Terms And Or (Factor V (Opened V m))) (AfterTerms (cond_kind spec) refl refl refl) (condition_at P m)
-  cond_rules m = let r = factors_read V spec P atoms.narrow m in terms_rules (cond_kind spec) refl refl refl And Or (Factor V (Opened V m)) (F m) (factor_unblank V m) r.reads r.read
+  pub cond_rules : (m : ℕ) → Rules (Terms And Or (Factor V (InnerFactor V m))) (AfterTerms (cond_kind spec) refl refl refl) (condition_at P m)
+  cond_rules m = let r = factors_read V spec P atoms.narrow m in terms_rules (cond_kind spec) refl refl refl And Or (Factor V (InnerFactor V m)) (F m) (factor_unblank V m) r.reads r.read
 
-  pub cond_rules' : (m : ℕ) → Rules (Terms And Or (Factor V' (Opened V' (suc m)))) (AfterTerms (cond_kind spec) refl refl refl) (condition_at P' (suc m))
-  cond_rules' m = let r = factors_read V' spec P' atoms.wide (suc m) in terms_rules (cond_kind spec) refl refl refl And Or (Factor V' (Opened V' (suc m))) (F' m) (factor_unblank V' (suc m)) r.reads r.read
+  pub cond_rules' : (m : ℕ) → Rules (Terms And Or (Factor V' (InnerFactor V' (suc m)))) (AfterTerms (cond_kind spec) refl refl refl) (condition_at P' (suc m))
+  cond_rules' m = let r = factors_read V' spec P' atoms.wide (suc m) in terms_rules (cond_kind spec) refl refl refl And Or (Factor V' (InnerFactor V' (suc m))) (F' m) (factor_unblank V' (suc m)) r.reads r.read
 
-  pub wider_conds : (m : ℕ) (text : List ℕ) (c : Cond) → Terms And Or (Factor V (Opened V m)) text c → Terms And Or (Factor V' (Opened V' (suc m))) text c
-  wider_conds m = wider_terms (cond_kind spec) refl refl refl And Or (Factor V (Opened V m)) (Factor V' (Opened V' (suc m))) (wider_factors m)
+  pub wider_conds : (m : ℕ) (text : List ℕ) (c : Cond) → Terms And Or (Factor V (InnerFactor V m)) text c → Terms And Or (Factor V' (InnerFactor V' (suc m))) text c
+  wider_conds m = wider_terms (cond_kind spec) refl refl refl And Or (Factor V (InnerFactor V m)) (Factor V' (InnerFactor V' (suc m))) (wider_factors m)
 
   pub conds_fault : (m : ℕ) (text : List ℕ) (cause : Cause) → condition_at P m text ≡ Err cause
-      → Fault (cond_kind spec) (Terms And Or (Factor V (Opened V m))) (Terms And Or (Factor V' (Opened V' (suc m)))) (condition_at P m) (condition_at P' (suc m)) text cause
+      → Fault (cond_kind spec) (Terms And Or (Factor V (InnerFactor V m))) (Terms And Or (Factor V' (InnerFactor V' (suc m)))) (condition_at P m) (condition_at P' (suc m)) text cause
   conds_fault m =
       let r = factors_read V spec P atoms.narrow m in
       let r' = factors_read V' spec P' atoms.wide (suc m) in
-      terms_fault (cond_kind spec) refl refl refl And Or (Factor V (Opened V m)) (Factor V' (Opened V' (suc m))) (wider_factors m) (F m) (F' m) (factor_unblank V m) (factor_unblank V' (suc m)) r.reads r.read r'.reads r'.read
+      terms_fault (cond_kind spec) refl refl refl And Or (Factor V (InnerFactor V m)) (Factor V' (InnerFactor V' (suc m))) (wider_factors m) (F m) (F' m) (factor_unblank V m) (factor_unblank V' (suc m)) r.reads r.read r'.reads r'.read
       (codes "true") Always (atom (always refl)) (factors_fault m)

@@ -26,7 +26,7 @@ use Rattle.text_grammar.proofs.Exactly as exactly
 use Rattle.text_grammar.proofs.TwoChains.{AfterTerms, after_instead}
 use Rattle.plan_types.specs.Format.{is_old}
 use Rattle.condition_text.specs.Grammar as grammar
-use Rattle.condition_text.specs.Grammar.{Versions, WiderVersions, Factor, Opened, Reads, reads, Stands, Wider, WiderAt, too_deep, needs_version, CauseAt, bad_cond, FirstFault}
+use Rattle.condition_text.specs.Grammar.{Versions, WiderVersions, Factor, InnerFactor, Reads, reads, Stands, Wider, WiderAt, too_deep, needs_version, CauseAt, bad_cond, FirstFault}
 use Rattle.condition_text.specs.Reading.{cond_tail, condition_at, ended, whole_at, cond_of}
 use Rattle.condition_text.proofs.CondKind.{no_bytes, cond_kind, is_opener, apart, ends_none}
 use Rattle.condition_text.proofs.CondTails.{wide_tail}
@@ -40,7 +40,7 @@ ended_err p e = rw e refl
 
 -- ---- a reader is correct for its language
 
-module _ (spec : Spec) (T : List ℕ → Range → Type 0) (m : ℕ) (P : Reader Cond) (rules : Rules (Terms And Or (Factor T (Opened T m))) (AfterTerms (cond_kind spec) refl refl refl) P) where
+module _ (spec : Spec) (T : List ℕ → Range → Type 0) (m : ℕ) (P : Reader Cond) (rules : Rules (Terms And Or (Factor T (InnerFactor T m))) (AfterTerms (cond_kind spec) refl refl refl) P) where
   after_end : (front after : List ℕ) → Blanks after → AfterTerms (cond_kind spec) refl refl refl front after
   after_end front after are = ((apart front after, ap (begins_with 38) (skip_all after are)), ap (begins_with 124) (skip_all after are))
 
@@ -76,10 +76,10 @@ module _ (spec : Spec) (n : ℕ) where
   P' = condition_at (wide_tail spec n) (suc n)
 
   abbrev C : List ℕ → Cond → Type 0
-  C = Terms And Or (Factor V (Opened V n))
+  C = Terms And Or (Factor V (InnerFactor V n))
 
   abbrev C' : List ℕ → Cond → Type 0
-  C' = Terms And Or (Factor V' (Opened V' (suc n)))
+  C' = Terms And Or (Factor V' (InnerFactor V' (suc n)))
 
   abbrev W : List ℕ → Result Cond Cause
   W text = P text >>= ended

@@ -49,20 +49,20 @@ pub data Atom (Tail : List ℕ → Range → Type 0) : List ℕ → Cond → Typ
   arch : {text x : List ℕ} → Worded (codes "arch") (Enclosed (Name is_component_name)) text x → Atom Tail text (Arch x)
   compiler : {text : List ℕ} {c : List ℕ × Range} → Worded (codes "impl") (Compiled Tail) text c → Atom Tail text (Impl c.0 c.1)
 
--- a factor: an atom, `!` and a factor, or a condition in parentheses; `Opened` is the language of inner factors
-pub data Factor (Tail : List ℕ → Range → Type 0) (Opened : List ℕ → Cond → Type 0) : List ℕ → Cond → Type 0 where
-  atom : {text : List ℕ} {c : Cond} → Atom Tail text c → Factor Tail Opened text c
-  negated : (blanks : List ℕ) {text : List ℕ} {c : Cond} → Blanks blanks → Opened text c → Factor Tail Opened (codes "!" ++ blanks ++ text) (Not c)
-  opened : (text after : List ℕ) {c : Cond} → Terms And Or Opened text c → Blanks after → Factor Tail Opened (codes "(" ++ text ++ after ++ codes ")") c
+-- a factor: an atom, `!` and a factor, or a condition in parentheses; `InnerFactor` is the language of inner factors
+pub data Factor (Tail : List ℕ → Range → Type 0) (InnerFactor : List ℕ → Cond → Type 0) : List ℕ → Cond → Type 0 where
+  atom : {text : List ℕ} {c : Cond} → Atom Tail text c → Factor Tail InnerFactor text c
+  negated : (blanks : List ℕ) {text : List ℕ} {c : Cond} → Blanks blanks → InnerFactor text c → Factor Tail InnerFactor (codes "!" ++ blanks ++ text) (Not c)
+  inner_factor : (text after : List ℕ) {c : Cond} → Terms And Or InnerFactor text c → Blanks after → Factor Tail InnerFactor (codes "(" ++ text ++ after ++ codes ")") c
 
 -- a factor inside a `(` or `!`, with at most so many open at once, this one included
-unfoldable pub Opened : (List ℕ → Range → Type 0) → ℕ → List ℕ → Cond → Type 0
-Opened Tail zero text c = ⊥
-Opened Tail (suc n) text c = Factor Tail (Opened Tail n) text c
+unfoldable pub InnerFactor : (List ℕ → Range → Type 0) → ℕ → List ℕ → Cond → Type 0
+InnerFactor Tail zero text c = ⊥
+InnerFactor Tail (suc n) text c = Factor Tail (InnerFactor Tail n) text c
 
 -- The text denotes this condition, with at most so many parentheses and `!` open at once.
 pub data Reads (Tail : List ℕ → Range → Type 0) (deepest : ℕ) : List ℕ → Cond → Type 0 where
-  reads : (text after : List ℕ) {c : Cond} → Terms And Or (Factor Tail (Opened Tail deepest)) text c → Blanks after → Reads Tail deepest (text ++ after) c
+  reads : (text after : List ℕ) {c : Cond} → Terms And Or (Factor Tail (InnerFactor Tail deepest)) text c → Blanks after → Reads Tail deepest (text ++ after) c
 
 -- the same, with as many parentheses open at once in a range
 abbrev pub Stands : Spec → ℕ → List ℕ → Cond → Type 0

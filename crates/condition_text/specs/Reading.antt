@@ -80,9 +80,9 @@ cond_cause TooMany = BadCond
 cond_cause BadEvent = BadCond
 
 -- a read of a range, with the causes of a condition
-abbrev pub told : {A : Type 0} → Result A Cause → Result A Cause
-told (Ok x) = Ok x
-told (Err cause) = Err (cond_cause cause)
+abbrev pub with_cond_causes : {A : Type 0} → Result A Cause → Result A Cause
+with_cond_causes (Ok x) = Ok x
+with_cond_causes (Err cause) = Err (cond_cause cause)
 
 -- an optional range, and the parenthesis that ends the test
 abbrev pub tail_at : Spec → ℕ → List ℕ → Result (Range × List ℕ) Cause
@@ -94,7 +94,7 @@ tail_at spec n text =
 
 -- the same, with the causes of a condition
 abbrev pub cond_tail : Spec → ℕ → List ℕ → Result (Range × List ℕ) Cause
-cond_tail spec n text = told (tail_at spec n text)
+cond_tail spec n text = with_cond_causes (tail_at spec n text)
 
 -- a compiler and its versions
 abbrev pub compiler_at : (List ℕ → Result (Range × List ℕ) Cause) → List ℕ → Result ((List ℕ × Range) × List ℕ) Cause
@@ -140,12 +140,12 @@ from_f tail text = elim (letter_after 102 text) [ None ↦ from_o tail text | So
 unfoldable pub atom_at : (List ℕ → Result (Range × List ℕ) Cause) → List ℕ → Result (Cond × List ℕ) Cause
 atom_at tail text = elim (letter_after 116 text) [ None ↦ from_f tail text | Some rest ↦ word_at (codes "rue") (λ t. Ok (Always, t)) rest ]
 
--- a factor: `!` and a factor, a condition in parentheses, or an atom; `opened` reads the inner factors
+-- a factor: `!` and a factor, a condition in parentheses, or an atom; `inner_factor` reads the inner factors
 unfoldable pub factor_at : (List ℕ → Result (Range × List ℕ) Cause) → (List ℕ → Result (Cond × List ℕ) Cause) → List ℕ → Result (Cond × List ℕ) Cause
-factor_at tail opened text =
+factor_at tail inner_factor text =
     elim (byte_after 40 text) [
-      | Some rest ↦ terms_at And Or bad opened rest >>= closed
-      | None ↦ elim (byte_after 33 text) [ Some rest ↦ valued Not (opened (skip_blanks rest)) | None ↦ atom_at tail text ]
+      | Some rest ↦ terms_at And Or bad inner_factor rest >>= closed
+      | None ↦ elim (byte_after 33 text) [ Some rest ↦ valued Not (inner_factor (skip_blanks rest)) | None ↦ atom_at tail text ]
     ]
 
 -- a factor with so much room; each `(` and `!` around a factor takes one

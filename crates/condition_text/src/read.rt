@@ -33,7 +33,7 @@ fn negated(alloc: Global, inner: Cond) -> Result<Cond, NoMemory>
 }
 
 // The rest after a required byte.
-fn twin(text: &[u8], byte: u8) -> Result<&[u8], TextFault>
+fn cond_byte_due(text: &[u8], byte: u8) -> Result<&[u8], TextFault>
     ensures gives { Gives (λ rest. rest.now) result (byte_due bad byte text.now) }
     ensures within { IfOk result (λ rest. length rest.now < length text.now) }
 {
@@ -50,14 +50,14 @@ fn behind(text: &[u8], byte: u8) -> Result<Option<&[u8]>, TextFault>
 {
     match byte_after(skip_blanks(text), byte) {
         None => Ok(None),
-        Some(more) => Ok(Some(twin(more, byte)?)),
+        Some(more) => Ok(Some(cond_byte_due(more, byte)?)),
     }
 }
 
 // A factor, if any room is left. Each `(` and `!` around a factor takes one of `room`.
 #[cycle(reading)]
 #[tactic(auto, unfolding(crate::specs::Reading::opened_at))]
-fn opened(alloc: Global, spec: Spec, room: u32, text: &[u8]) -> Result<(Cond, &[u8]), TextFault>
+fn inner_factor(alloc: Global, spec: Spec, room: u32, text: &[u8]) -> Result<(Cond, &[u8]), TextFault>
     ensures gives { Gives (λ p. (p.0, p.1.now)) result (opened_at (cond_tail spec 64) room text.now) }
     ensures within { IfOk result (λ p. length p.1.now < length text.now) }
 {
@@ -80,7 +80,7 @@ fn factor_at(alloc: Global, spec: Spec, room: u32, text: &[u8]) -> Result<(Cond,
         return Ok((condition, rest));
     }
     if let Some(rest) = byte_after(text, b'!') {
-        let (condition, rest) = opened(alloc, spec, room, skip_blanks(rest))?;
+        let (condition, rest) = inner_factor(alloc, spec, room, skip_blanks(rest))?;
         return Ok((negated(alloc, condition)?, rest));
     }
     atom_at(alloc, spec, text)
@@ -99,7 +99,7 @@ fn next_factor(
 {
     match behind(text, b'&')? {
         None => Ok(None),
-        Some(rest) => Ok(Some(opened(alloc, spec, room, skip_blanks(rest))?)),
+        Some(rest) => Ok(Some(inner_factor(alloc, spec, room, skip_blanks(rest))?)),
     }
 }
 
@@ -131,7 +131,7 @@ fn term_at(alloc: Global, spec: Spec, room: u32, text: &[u8]) -> Result<(Cond, &
         (term_at Cond.And bad (opened_at (cond_tail spec 64) room) text.now) }
     ensures within { IfOk result (λ p. length p.1.now < length text.now) }
 {
-    let (first, rest) = opened(alloc, spec, room, skip_blanks(text))?;
+    let (first, rest) = inner_factor(alloc, spec, room, skip_blanks(text))?;
     factors_after(alloc, spec, room, first, rest)
 }
 

@@ -12,7 +12,7 @@ use Rattle.plan_types.specs.declared.condition.FlagSet.{FlagSet}
 use Rattle.conditionals.specs.declared.value.Tri.{Tri}
 use Rattle.conditionals.specs.declared.value.Tri.TheVariants.{Yes, No, Unknown}
 use Rattle.conditionals.specs.Value.{Flags, value, value_step, tri_of, flag_value, negated, and_then, or_else}
-use Rattle.conditionals.specs.Paths.{Path, paths_of, paths_step, followed, fixed, is_same, agree, is_consistent, kept_once, clean_paths, says, holds, is_wanted}
+use Rattle.conditionals.specs.Paths.{Path, paths_of, paths_step, followed, fixed, is_same, agree, is_consistent, kept_once, clean_paths, has_setting, holds, is_wanted}
 use Rattle.conditionals.proofs.Keeping.{all_kept}
 use Rattle.plan_types.specs.Bytes.{same_text}
 use Rattle.std.proofs.Math.Bool.{and-false}
@@ -81,7 +81,7 @@ or_no Unknown Yes = refl
 or_no Unknown No = refl
 or_no Unknown Unknown = refl
 
-one_setting : (known : Option Bool) (want : Bool) → 0 + one (says known want && true) ≡ one (is_wanted want (flag_value known))
+one_setting : (known : Option Bool) (want : Bool) → 0 + one (has_setting known want && true) ≡ one (is_wanted want (flag_value known))
 one_setting None true = refl
 one_setting None false = refl
 one_setting (Some true) true = refl
@@ -107,7 +107,7 @@ module _ (flags : Flags) where
   number_after : (path : Path) (second : List Path) → number (map (λ next. path ++ next) second) ≡ one (holds flags path) * number second
   number_after path [] = omega arith
   number_after path (next ∷ second) =
-      let here = ap one (list_all-append (λ s. says (flags s.name) s.on) path next) ∙ one_and (holds flags path) (holds flags next) in
+      let here = ap one (list_all-append (λ s. has_setting (flags s.name) s.on) path next) ∙ one_and (holds flags path) (holds flags next) in
       let more = number_after path second in
       let first = number_cons (path ++ next) (map (λ n. path ++ n) second) in
       let last = ap (λ n. one (holds flags path) * n) (number_cons next second) in
@@ -174,9 +174,9 @@ module _ (flags : Flags) where
   -- ---- clean paths
 
   abbrev is_set : FlagSet → Bool
-  is_set s = says (flags s.name) s.on
+  is_set s = has_setting (flags s.name) s.on
 
-  says_one : (known : Option Bool) (a b : Bool) → is_same a b ≡ false → (says known a && says known b) ≡ false
+  says_one : (known : Option Bool) (a b : Bool) → is_same a b ≡ false → (has_setting known a && has_setting known b) ≡ false
   says_one None a b e = refl
   says_one (Some true) true true e = absurd (cc e)
   says_one (Some true) true false e = refl
@@ -202,7 +202,7 @@ module _ (flags : Flags) where
       by : (b : Bool) → same_text s.name t.name ≡ b → (o : Bool) → is_same s.on t.on ≡ o → (cond b o true && list_all (agree s) path) ≡ false → (list_all (agree s) path ≡ false → (is_set s && holds flags path) ≡ false) → (is_set s && (is_set t && holds flags path)) ≡ false
       by true f true g h more = under_false (is_set s) (is_set t) _ (more h)
       by true f false g h more =
-          two_false (is_set s) (is_set t) _ (ap (λ name. is_set s && says (flags name) t.on) (sym (same-is s.name t.name f)) ∙ says_one (flags s.name) s.on t.on g)
+          two_false (is_set s) (is_set t) _ (ap (λ name. is_set s && has_setting (flags name) t.on) (sym (same-is s.name t.name f)) ∙ says_one (flags s.name) s.on t.on g)
       by false f o g h more = under_false (is_set s) (is_set t) _ (more h)
 
   not_holds : (path : Path) → is_consistent path ≡ false → holds flags path ≡ false

@@ -78,13 +78,13 @@ abbrev pub clean_paths : List Path → List Path
 clean_paths = filter_map clean_path
 
 -- whether a flag is known to have this setting
-abbrev pub says : Option Bool → Bool → Bool
-says None on = false
-says (Some is) on = is_same is on
+abbrev pub has_setting : Option Bool → Bool → Bool
+has_setting None on = false
+has_setting (Some is) on = is_same is on
 
 -- whether a path holds: all its settings agree with a partial assignment, which sets all its flags
 abbrev pub holds : Flags → Path → Bool
-holds flags = list_all (λ s. says (flags s.name) s.on)
+holds flags = list_all (λ s. has_setting (flags s.name) s.on)
 
 -- whether a value is the wanted one: Yes for true, No for false
 abbrev pub is_wanted : Bool → Tri → Bool

@@ -7,24 +7,24 @@ use Rattle.qualified_goals.specs.declared.variable.Var.{Var}
 use Rattle.qualified_goals.specs.Names.{NameTable, is_listed}
 use Rattle.constraint_set.specs.declared.constraints.Constraints.{Constraints}
 use Rattle.constraint_set.specs.declared.rules.Setting.{Setting}
-use Rattle.constraint_set.specs.Bars.{asks, bars, bars_part, boot_libraries, excludes, is_met, is_unit, is_value, names_flag, wants}
+use Rattle.constraint_set.specs.Bars.{requires_value, bars, bars_part, boot_libraries, excludes, applies, is_unit, is_value, names_flag, requires_stanza}
 use Rattle.keyed_lists.specs.Lists.{items_at}
 use Rattle.constraint_set.specs.Rules.{is_set, rule_bars, settings_at}
-use Rattle.constraint_set.specs.Stands.{StandsFor}
+use Rattle.constraint_set.specs.Stands.{Represents}
 use Rattle.constraint_set.proofs.Asked.{rules-bar, settings-ask, settings-name}
 
-module _ (kept : Constraints) (project : Project) (names : NameTable) (stands : StandsFor project names kept) (v : Var) where
+module _ (kept : Constraints) (project : Project) (names : NameTable) (stands : Represents project names kept) (v : Var) where
   pub bars-is : (i : Instance) (barred boot : Bool) → barred ≡ list_any (rule_bars v.qual i) (items_at nat_eq kept.rules.packages v.«package»)
       → boot ≡ (is_listed boot_libraries i.name && not (is_unit i.origin) && not kept.boot_installs) → (barred || boot) ≡ bars project names v i
   bars-is i barred boot h k =
       ap (λ b. b || boot) (h ∙ ap (list_any (rule_bars v.qual i)) (stands.rules_are.packages_are v.«package») ∙ rules-bar names v i project.constraints)
-      ∙ ap (λ b. list_any (λ c. is_met names c v && excludes c.what i) project.constraints || b) (k ∙ ap (λ b. is_listed boot_libraries i.name && not (is_unit i.origin) && not b) stands.boot_installs_are)
+      ∙ ap (λ b. list_any (λ c. applies names c v && excludes c.what i) project.constraints || b) (k ∙ ap (λ b. is_listed boot_libraries i.name && not (is_unit i.origin) && not b) stands.boot_installs_are)
 
   pub part-is : (on asked wanted : Bool) → asked ≡ list_any (is_set v.qual (not on)) (settings_at kept.rules.parts v.«package» v.part)
-      → wanted ≡ wants kept.tests kept.benchmarks v.part → (asked || (wanted && not on)) ≡ bars_part project names v on
+      → wanted ≡ requires_stanza kept.tests kept.benchmarks v.part → (asked || (wanted && not on)) ≡ bars_part project names v on
   part-is on asked wanted h k =
       ap (λ b. b || (wanted && not on)) (h ∙ ap (list_any (is_set v.qual (not on))) (stands.rules_are.parts_are v.«package» v.part) ∙ settings-ask names v (not on) project.constraints)
-      ∙ ap (λ b. list_any (λ c. is_met names c v && asks names c.what v.part (not on)) project.constraints || (b && not on)) (k ∙ ap (λ b. wants b kept.benchmarks v.part) stands.tests_are ∙ ap (λ b. wants project.tests b v.part) stands.benchmarks_are)
+      ∙ ap (λ b. list_any (λ c. applies names c v && requires_value names c.what v.part (not on)) project.constraints || (b && not on)) (k ∙ ap (λ b. requires_stanza b kept.benchmarks v.part) stands.tests_are ∙ ap (λ b. requires_stanza project.tests b v.part) stands.benchmarks_are)
 
   pub named-is : (on named : Bool) → named ≡ list_any (λ (s : Setting). is_value s.on on) (settings_at kept.rules.parts v.«package» v.part) → named ≡ names_flag project names v on
   named-is on named h = h ∙ ap (list_any (λ (s : Setting). is_value s.on on)) (stands.rules_are.parts_are v.«package» v.part) ∙ settings-name names v on project.constraints

@@ -30,23 +30,23 @@ is_on names c p = is_number (number_of names.packages c.«package») p
 
 -- Whether a scope covers a qualifier: no prefix the top level, `any.` everything, `setup.` each setup, `p:setup.` the
 -- setup of p.
-abbrev pub holds : NameTable → Scope → Qual → Bool
-holds names AtTop Top = true
-holds names AtTop (Setup p) = false
-holds names AtTop (Exe p t) = false
-holds names Everywhere Top = true
-holds names Everywhere (Setup p) = true
-holds names Everywhere (Exe p t) = true
-holds names InSetups Top = false
-holds names InSetups (Setup p) = true
-holds names InSetups (Exe p t) = false
-holds names (InSetupOf owner) Top = false
-holds names (InSetupOf owner) (Setup p) = is_number (number_of names.packages owner) p
-holds names (InSetupOf owner) (Exe p t) = false
+abbrev pub covers : NameTable → Scope → Qual → Bool
+covers names AtTop Top = true
+covers names AtTop (Setup p) = false
+covers names AtTop (Exe p t) = false
+covers names Everywhere Top = true
+covers names Everywhere (Setup p) = true
+covers names Everywhere (Exe p t) = true
+covers names InSetups Top = false
+covers names InSetups (Setup p) = true
+covers names InSetups (Exe p t) = false
+covers names (InSetupOf owner) Top = false
+covers names (InSetupOf owner) (Setup p) = is_number (number_of names.packages owner) p
+covers names (InSetupOf owner) (Exe p t) = false
 
 -- whether a constraint is on the package of a variable, and its scope covers the variable's qualifier
-abbrev pub is_met : NameTable → Constraint → Var → Bool
-is_met names c v = is_on names c v.«package» && holds names c.scope v.qual
+abbrev pub applies : NameTable → Constraint → Var → Bool
+applies names c v = is_on names c v.«package» && covers names c.scope v.qual
 
 -- whether an instance is an installed unit
 abbrev pub is_unit : Origin → Bool
@@ -103,15 +103,15 @@ is_value true on = on
 is_value false on = not on
 
 -- whether a constraint requires this value of a part
-abbrev pub asks : NameTable → What → Part → Bool → Bool
-asks names what part on = list_any (λ value. is_value value on) (values_of names what part)
+abbrev pub requires_value : NameTable → What → Part → Bool → Bool
+requires_value names what part on = list_any (λ value. is_value value on) (values_of names what part)
 
 -- whether the project requires this stanza of every package
-abbrev pub wants : Bool → Bool → Part → Bool
-wants tests benchmarks Package = false
-wants tests benchmarks (Flag f) = false
-wants tests benchmarks TestPart = tests
-wants tests benchmarks BenchPart = benchmarks
+abbrev pub requires_stanza : Bool → Bool → Part → Bool
+requires_stanza tests benchmarks Package = false
+requires_stanza tests benchmarks (Flag f) = false
+requires_stanza tests benchmarks TestPart = tests
+requires_stanza tests benchmarks BenchPart = benchmarks
 
 -- the libraries that come with the compiler
 abbrev pub boot_libraries : List Name
@@ -123,12 +123,12 @@ is_boot project i = is_listed boot_libraries i.name && not (is_unit i.origin) &&
 
 -- an instance is barred if a constraint in scope excludes it, or if it is a boot library that may not be built
 abbrev pub bars : Project → NameTable → Var → Instance → Bool
-bars project names v i = list_any (λ c. is_met names c v && excludes c.what i) project.constraints || is_boot project i
+bars project names v i = list_any (λ c. applies names c v && excludes c.what i) project.constraints || is_boot project i
 
 -- the value of a part is barred if a constraint in scope or the project requires the other value
 abbrev pub bars_part : Project → NameTable → Var → Bool → Bool
-bars_part project names v on = list_any (λ c. is_met names c v && asks names c.what v.part (not on)) project.constraints || (wants project.tests project.benchmarks v.part && not on)
+bars_part project names v on = list_any (λ c. applies names c v && requires_value names c.what v.part (not on)) project.constraints || (requires_stanza project.tests project.benchmarks v.part && not on)
 
 -- whether a constraint on the package, whatever its scope, requires the value
 abbrev pub names_flag : Project → NameTable → Var → Bool → Bool
-names_flag project names v on = list_any (λ c. is_on names c v.«package» && asks names c.what v.part on) project.constraints
+names_flag project names v on = list_any (λ c. is_on names c v.«package» && requires_value names c.what v.part on) project.constraints

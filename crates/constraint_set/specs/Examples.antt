@@ -13,7 +13,7 @@ use Rattle.qualified_goals.specs.declared.variable.Qual.TheVariants.{Top, Setup}
 use Rattle.qualified_goals.specs.declared.variable.Part.TheVariants.{Package, Flag, Tests as TestPart, Benches as BenchPart}
 use Rattle.qualified_goals.specs.declared.variable.Var.{Var}
 use Rattle.qualified_goals.specs.Names.{NameTable}
-use Rattle.constraint_set.specs.Bars.{holds, bars, bars_part, names_flag}
+use Rattle.constraint_set.specs.Bars.{covers, bars, bars_part, names_flag}
 use Rattle.constraint_set.specs.Relaxed.{relaxes}
 
 abbrev names : NameTable
@@ -55,10 +55,10 @@ in-setup : bars (with_constraints (units_alone ∷ [])) names (of_a (Setup 1)) a
 in-setup = refl
 
 -- `main:setup.` covers the setup of main
-owner : holds names (InSetupOf (codes "main")) (Setup 1) ≡ true
+owner : covers names (InSetupOf (codes "main")) (Setup 1) ≡ true
 owner = refl
 
-other-owner : holds names (InSetupOf (codes "main")) (Setup 2) ≡ false
+other-owner : covers names (InSetupOf (codes "main")) (Setup 2) ≡ false
 other-owner = refl
 
 -- `setup.a +f` bars off in a setup, and names on under each qualifier

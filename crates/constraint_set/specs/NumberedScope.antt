@@ -21,19 +21,19 @@ numbered names InSetups = Setups
 numbered names (InSetupOf owner) = setup_of (number_of names.packages owner)
 
 -- whether the scope covers a qualifier
-abbrev pub numbered_holds : NumberedScope → Qual → Bool
-numbered_holds Top TopLevel = true
-numbered_holds Top (Setup p) = false
-numbered_holds Top (Exe p t) = false
-numbered_holds Everywhere TopLevel = true
-numbered_holds Everywhere (Setup p) = true
-numbered_holds Everywhere (Exe p t) = true
-numbered_holds Setups TopLevel = false
-numbered_holds Setups (Setup p) = true
-numbered_holds Setups (Exe p t) = false
-numbered_holds (SetupOf owner) TopLevel = false
-numbered_holds (SetupOf owner) (Setup p) = nat_eq owner p
-numbered_holds (SetupOf owner) (Exe p t) = false
-numbered_holds Nowhere TopLevel = false
-numbered_holds Nowhere (Setup p) = false
-numbered_holds Nowhere (Exe p t) = false
+abbrev pub numbered_covers : NumberedScope → Qual → Bool
+numbered_covers Top TopLevel = true
+numbered_covers Top (Setup p) = false
+numbered_covers Top (Exe p t) = false
+numbered_covers Everywhere TopLevel = true
+numbered_covers Everywhere (Setup p) = true
+numbered_covers Everywhere (Exe p t) = true
+numbered_covers Setups TopLevel = false
+numbered_covers Setups (Setup p) = true
+numbered_covers Setups (Exe p t) = false
+numbered_covers (SetupOf owner) TopLevel = false
+numbered_covers (SetupOf owner) (Setup p) = nat_eq owner p
+numbered_covers (SetupOf owner) (Exe p t) = false
+numbered_covers Nowhere TopLevel = false
+numbered_covers Nowhere (Setup p) = false
+numbered_covers Nowhere (Exe p t) = false

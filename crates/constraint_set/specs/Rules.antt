@@ -12,28 +12,28 @@ use Rattle.qualified_goals.specs.declared.variable.Part.TheVariants.{Package, Fl
 use Rattle.qualified_goals.specs.Names.{NameTable}
 use Rattle.constraint_set.specs.Bars.{is_on, is_unit, is_value, values_of}
 use Rattle.keyed_lists.specs.Lists.{items_at}
-use Rattle.constraint_set.specs.NumberedScope.{numbered, numbered_holds}
+use Rattle.constraint_set.specs.NumberedScope.{numbered, numbered_covers}
 use Rattle.constraint_set.specs.declared.numbered_scope.NumberedScope.{NumberedScope}
-use Rattle.constraint_set.specs.declared.rules.Wanted.{Wanted}
-use Rattle.constraint_set.specs.declared.rules.Wanted.TheVariants.{Range, Installed, Source}
+use Rattle.constraint_set.specs.declared.rules.Requirement.{Requirement}
+use Rattle.constraint_set.specs.declared.rules.Requirement.TheVariants.{Range, Installed, Source}
 use Rattle.constraint_set.specs.declared.rules.Rule.{Rule}
 use Rattle.constraint_set.specs.declared.rules.Setting.{Setting}
 use Rattle.constraint_set.specs.declared.rules.PartOf.{PartOf}
 use Rattle.constraint_set.specs.declared.rules.Rules.{Rules}
 
 -- whether a requirement excludes an instance
-abbrev pub excluded : Wanted → Instance → Bool
+abbrev pub excluded : Requirement → Instance → Bool
 excluded (Range range) i = not (members range i.version)
 excluded Installed i = not (is_unit i.origin)
 excluded Source i = is_unit i.origin
 
 -- whether a rule bars an instance under a qualifier
 abbrev pub rule_bars : Qual → Instance → Rule → Bool
-rule_bars qual i rule = numbered_holds rule.scope qual && excluded rule.wanted i
+rule_bars qual i rule = numbered_covers rule.scope qual && excluded rule.wanted i
 
 -- whether a setting requires a value under a qualifier
 abbrev pub is_set : Qual → Bool → Setting → Bool
-is_set qual on setting = numbered_holds setting.scope qual && is_value setting.on on
+is_set qual on setting = numbered_covers setting.scope qual && is_value setting.on on
 
 -- whether two parts are equal
 abbrev pub is_part : Part → Part → Bool
@@ -63,16 +63,16 @@ abbrev pub settings_at : {S : Type 0} → IndexMap PartOf (List Setting) S → �
 settings_at parts p part = items_at is_part_of parts (record { «package» = p; part = part })
 
 -- what a constraint requires of its package
-abbrev pub wanted_of : What → List Wanted
-wanted_of (OfRange range) = Range range ∷ []
-wanted_of OfUnit = Installed ∷ []
-wanted_of OfSource = Source ∷ []
-wanted_of (Flags sets) = []
-wanted_of Tests = []
-wanted_of Benches = []
+abbrev pub requirement_of : What → List Requirement
+requirement_of (OfRange range) = Range range ∷ []
+requirement_of OfUnit = Installed ∷ []
+requirement_of OfSource = Source ∷ []
+requirement_of (Flags sets) = []
+requirement_of Tests = []
+requirement_of Benches = []
 
 -- these requirements as rules of one scope
-abbrev pub rules_as : NumberedScope → List Wanted → List Rule
+abbrev pub rules_as : NumberedScope → List Requirement → List Rule
 rules_as scope wanted = map (λ w. record { scope = scope; wanted = w }) wanted
 
 -- these values as settings of one scope
@@ -81,7 +81,7 @@ settings_as scope values = map (λ on. record { scope = scope; on = on }) values
 
 -- the rules that a constraint makes for its package
 abbrev pub rules_of : NameTable → Constraint → List Rule
-rules_of names c = rules_as (numbered names c.scope) (wanted_of c.what)
+rules_of names c = rules_as (numbered names c.scope) (requirement_of c.what)
 
 -- the settings that a constraint makes for a part of its package
 abbrev pub settings_of : NameTable → Part → Constraint → List Setting

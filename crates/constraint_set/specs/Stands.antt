@@ -7,7 +7,7 @@ use Rattle.constraint_set.specs.Relaxing.{RelaxesAs}
 use Rattle.constraint_set.specs.Rules.{RulesAre}
 
 -- the kept rules, relaxing and settings are those of the project, by these numbers
-pub record StandsFor (project : Project) (names : NameTable) (kept : Constraints) : Type 0 where
+pub record Represents (project : Project) (names : NameTable) (kept : Constraints) : Type 0 where
   pub rules_are : RulesAre names project.constraints kept.rules
   pub newer_are : RelaxesAs project.newer kept.newer
   pub older_are : RelaxesAs project.older kept.older

@@ -6,11 +6,11 @@ ghost use Rattle.plan_types.specs.declared.project.Project.{Project};
 ghost use Rattle.qualified_goals.specs.Names.{NameTable, is_listed};
 ghost use Rattle.version_range.specs.Version.{has_versions};
 ghost use Rattle.version_range.specs.Cuts.{Relaxes, inside};
-ghost use Rattle.constraint_set.specs.Bars.{bars, bars_part, boot_libraries, is_unit, is_value, names_flag, wants};
+ghost use Rattle.constraint_set.specs.Bars.{bars, bars_part, boot_libraries, is_unit, is_value, names_flag, requires_stanza};
 ghost use Rattle.keyed_lists.specs.Lists.{items_at};
 ghost use Rattle.constraint_set.specs.Relaxed.{relaxes};
 ghost use Rattle.constraint_set.specs.Rules.{is_set, rule_bars, settings_at};
-ghost use Rattle.constraint_set.specs.Stands.{StandsFor};
+ghost use Rattle.constraint_set.specs.Stands.{Represents};
 
 use crate::relaxing::Relaxing;
 use crate::rules::{PartOf, Rules, Setting, is_unit};
@@ -49,7 +49,7 @@ impl Drop for Constraints {
 impl Constraints {
     /// The constraints of a project, by the numbers of their names.
     pub fn of(alloc: Global, project: &Project, names: &Names) -> Result<Constraints, NoMemory>
-        ensures { IfOk result (λ kept. StandsFor project.now names.now kept) }
+        ensures { IfOk result (λ kept. Represents project.now names.now kept) }
     {
         let rules = Rules::of(alloc, project.constraints.as_slice(), names)?;
         let newer = Relaxing::of(alloc, project.newer.as_slice())?;
@@ -66,21 +66,21 @@ impl Constraints {
 
     /// Whether an instance of the package of a variable may not be chosen.
     pub fn bars(&self, v: Var, instance: &Instance) -> bool
-        ensures { (project : Project) (names : NameTable) → StandsFor project names self.now → result ≡ bars project names v instance.now }
+        ensures { (project : Project) (names : NameTable) → Represents project names self.now → result ≡ bars project names v instance.now }
     {
         self.rules_bar(v, instance) || self.is_boot(instance)
     }
 
     /// Whether a flag or a stanza may not have this value.
     pub fn bars_part(&self, v: Var, on: bool) -> bool
-        ensures { (project : Project) (names : NameTable) → StandsFor project names self.now → result ≡ bars_part project names v on }
+        ensures { (project : Project) (names : NameTable) → Represents project names self.now → result ≡ bars_part project names v on }
     {
-        self.is_asked(v, !on) || (self.wants(v.part) && !on)
+        self.is_asked(v, !on) || (self.requires_stanza(v.part) && !on)
     }
 
     /// Whether some constraint on the package of a variable, whatever its scope, requires this value of the flag.
     pub fn names_flag(&self, v: Var, on: bool) -> bool
-        ensures { (project : Project) (names : NameTable) → StandsFor project names self.now → result ≡ names_flag project names v on }
+        ensures { (project : Project) (names : NameTable) → Represents project names self.now → result ≡ names_flag project names v on }
     {
         self.is_named(v, on)
     }
@@ -94,7 +94,7 @@ impl Constraints {
         range: &Range,
     ) -> Result<Cuts, NoMemory>
         requires { has_versions range.now ≡ true }
-        ensures { (project : Project) (names : NameTable) → StandsFor project names self.now →
+        ensures { (project : Project) (names : NameTable) → Represents project names self.now →
             IfOk result (λ cuts. Relaxes (relaxes project.newer owner.now dep.now) (relaxes project.older owner.now dep.now)
             (members range.now) (inside cuts)) }
     {
@@ -125,7 +125,7 @@ impl Constraints {
     {
         self.settings(v)
             .iter()
-            .any(|setting| setting.asks(v.qual, on))
+            .any(|setting| setting.requires_value(v.qual, on))
     }
 
     fn is_named(&self, v: Var, on: bool) -> bool
@@ -145,8 +145,8 @@ impl Constraints {
     }
 
     // Whether the project requires this stanza of every package.
-    fn wants(&self, part: Part) -> bool
-        ensures { result ≡ wants self.now.tests self.now.benchmarks part }
+    fn requires_stanza(&self, part: Part) -> bool
+        ensures { result ≡ requires_stanza self.now.tests self.now.benchmarks part }
     {
         match part {
             Part::Package | Part::Flag(_) => false,

@@ -1,6 +1,6 @@
 // Scopes with their packages as numbers.
 ghost use Rattle.std.specs.Prelude.{◌≡◌};
-ghost use Rattle.constraint_set.specs.NumberedScope.{numbered_holds, numbered};
+ghost use Rattle.constraint_set.specs.NumberedScope.{numbered_covers, numbered};
 
 use plan_types::Scope;
 use qualified_goals::{Names, Qual};
@@ -31,8 +31,8 @@ impl NumberedScope {
         }
     }
 
-    pub(crate) fn holds(self, qual: Qual) -> bool
-        ensures { result ≡ numbered_holds self qual }
+    pub(crate) fn covers(self, qual: Qual) -> bool
+        ensures { result ≡ numbered_covers self qual }
     {
         match (self, qual) {
             (NumberedScope::Everywhere, _) => true,

@@ -14,7 +14,7 @@ use std::alloc::Global;
 
 /// What a constraint requires of an instance.
 #[derive(Debug, Drop)]
-pub(crate) enum Wanted {
+pub(crate) enum Requirement {
     Range(Range),
     Installed,
     Source,
@@ -24,7 +24,7 @@ pub(crate) enum Wanted {
 #[derive(Debug, Drop)]
 pub(crate) struct Rule {
     pub scope: NumberedScope,
-    pub wanted: Wanted,
+    pub wanted: Requirement,
 }
 
 /// The value that a constraint requires of a part, and in which scope.
@@ -58,14 +58,14 @@ impl Drop for Rules {
     }
 }
 
-impl Wanted {
+impl Requirement {
     fn excludes(&self, instance: &Instance) -> bool
         ensures { result ≡ excluded self.now instance.now }
     {
         match self {
-            Wanted::Range(range) => !range.has(&instance.version),
-            Wanted::Installed => !is_unit(instance),
-            Wanted::Source => is_unit(instance),
+            Requirement::Range(range) => !range.has(&instance.version),
+            Requirement::Installed => !is_unit(instance),
+            Requirement::Source => is_unit(instance),
         }
     }
 }
@@ -83,15 +83,15 @@ impl Rule {
     pub(crate) fn bars(&self, qual: Qual, instance: &Instance) -> bool
         ensures { result ≡ rule_bars qual instance.now self.now }
     {
-        self.scope.holds(qual) && self.wanted.excludes(instance)
+        self.scope.covers(qual) && self.wanted.excludes(instance)
     }
 }
 
 impl Setting {
-    pub(crate) fn asks(&self, qual: Qual, on: bool) -> bool
+    pub(crate) fn requires_value(&self, qual: Qual, on: bool) -> bool
         ensures { result ≡ is_set qual on self.now }
     {
-        self.scope.holds(qual) && self.is(on)
+        self.scope.covers(qual) && self.is(on)
     }
 
     pub(crate) fn is(&self, on: bool) -> bool
@@ -151,10 +151,10 @@ impl Rules {
         match &constraint.what {
             What::Range(range) => {
                 let range = range.copy(alloc)?;
-                self.add_rule(alloc, package, scope, Wanted::Range(range))
+                self.add_rule(alloc, package, scope, Requirement::Range(range))
             }
-            What::Installed => self.add_rule(alloc, package, scope, Wanted::Installed),
-            What::Source => self.add_rule(alloc, package, scope, Wanted::Source),
+            What::Installed => self.add_rule(alloc, package, scope, Requirement::Installed),
+            What::Source => self.add_rule(alloc, package, scope, Requirement::Source),
             What::Flags(sets) => self.add_flags(alloc, names, package, scope, sets.as_slice()),
             What::Tests => self.add_setting(alloc, package, Part::Tests, scope, true),
             What::Benches => self.add_setting(alloc, package, Part::Benches, scope, true),
@@ -166,7 +166,7 @@ impl Rules {
         alloc: Global,
         package: u64,
         scope: NumberedScope,
-        wanted: Wanted,
+        wanted: Requirement,
     ) -> Result<(), NoMemory>
         ensures packages { OnOk result (AddsRules self.old self.new
             (at_package «package» (record { scope = scope; wanted = wanted } ∷ []))) }

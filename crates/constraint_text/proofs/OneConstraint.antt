@@ -20,10 +20,10 @@ use Rattle.version_range.proofs.Exact.{one_range}
 use Rattle.entry_text.specs.Entries.{Each, First, here, later}
 use Rattle.entry_text.specs.Entries as entries
 use Rattle.entry_text.specs.Words.{run, behind, is_name_byte, behind_name, words}
-use Rattle.constraint_text.specs.Constraints.{Target, asked_by, asked_alone, Flag, on, off, Asked, alone, flags, Asks, range, other, ConstraintEntry}
+use Rattle.constraint_text.specs.Constraints.{Target, required_by, asked_alone, Flag, on, off, Required, alone, flags, Requires, range, other, ConstraintEntry}
 use Rattle.entry_text.proofs.Only.{Settled, one_each, each_or_first}
 use Rattle.common_laws.specs.Small.{tail_same}
-use Rattle.constraint_text.specs.Faults.{BadAsNone}
+use Rattle.constraint_text.specs.Faults.{IsBadConstraint}
 use Rattle.constraint_text.proofs.OneNamed.{project_settled}
 
 mark : (byte : ℕ) (text rest : List ℕ) → begins_with byte text ≡ false → text ≡ byte ∷ rest → begins_with byte (byte ∷ rest) ≡ true → ⊥
@@ -59,25 +59,25 @@ one_flag part x y (on name e h is) (off name' e' h' is') = absurd (plus_or_minus
 one_flag part x y (off name e h is) (on name' e' h' is') = absurd (plus_or_minus part name' name e' e)
 one_flag part x y (off name e h is) (off name' e' h' is') = is ∙ (λ i. record { name = map to_ascii_lowercase (tail_same (sym e ∙ e') i); on = false }) ∙ sym is'
 
-no_word : (part : List ℕ) (flag : FlagSet) → Flag part flag → asked_by part ≡ None
-no_word part flag (on name e h is) = ap asked_by e
-no_word part flag (off name e h is) = ap asked_by e
+no_word : (part : List ℕ) (flag : FlagSet) → Flag part flag → required_by part ≡ None
+no_word part flag (on name e h is) = ap required_by e
+no_word part flag (off name e h is) = ap required_by e
 
 some_none : {A : Type 0} (x : A) (o : Option A) → o ≡ Some x → o ≡ None → ⊥
 some_none x o e f = absurd cc
 
 no_flags : (parts : List (List ℕ)) (set : List FlagSet) (w : What) → Each Flag parts set → asked_alone parts ≡ Some w → ⊥
 no_flags parts set w entries.none h = some_none w None h refl
-no_flags parts set w (entries.more {part = part} {x = flag} is entries.none) h = some_none w (asked_by part) h (no_word part flag is)
+no_flags parts set w (entries.more {part = part} {x = flag} is entries.none) h = some_none w (required_by part) h (no_word part flag is)
 no_flags parts set w (entries.more is (entries.more is' each)) h = some_none w None h refl
 
-one_asked : (parts : List (List ℕ)) (x y : What) → Asked parts x → Asked parts y → x ≡ y
+one_asked : (parts : List (List ℕ)) (x y : What) → Required parts x → Required parts y → x ≡ y
 one_asked parts x y (alone e) (alone f) = same_Some _ _ (sym e ∙ f)
 one_asked parts x y (alone e) (flags set each is) = absurd (no_flags parts set x each e)
 one_asked parts x y (flags set each is) (alone e) = absurd (no_flags parts set y each e)
 one_asked parts x y (flags set each is) (flags set' each' is') = is ∙ ap what.Flags (one_each Flag one_flag parts set set' each each') ∙ sym is'
 
-pub one_asks : (text : List ℕ) (x y : What) → Asks text x → Asks text y → x ≡ y
+pub one_asks : (text : List ℕ) (x y : What) → Requires text x → Requires text y → x ≡ y
 one_asks text x y (range r h is) (range s k is') = is ∙ ap what.Range (one_range V3_0 64 text r s h k) ∙ sym is'
 one_asks text x y (range r h is) (other never a) = absurd (never r h)
 one_asks text x y (other never a) (range r h is) = absurd (never r h)
@@ -86,38 +86,38 @@ one_asks text x y (other never a) (other never' b) = one_asked (words text) x y 
 one_entry : (text : List ℕ) (x y : Constraint) → ConstraintEntry text x → ConstraintEntry text y → x ≡ y
 one_entry text x y e f =
     let t = one_target text x.scope y.scope x.«package» y.«package» e.rest f.rest e.target f.target in
-    let asks = one_asks f.rest x.what y.what (subst (λ r. Asks r x.what) t.2 e.asks) f.asks in
+    let asks = one_asks f.rest x.what y.what (subst (λ r. Requires r x.what) t.2 e.asks) f.asks in
     λ i. record { scope = t.0 i; «package» = t.1 i; what = asks i }
 
-pub constraint_settled : Settled ConstraintEntry (BadAsNone ConstraintEntry)
+pub constraint_settled : Settled ConstraintEntry (IsBadConstraint ConstraintEntry)
 constraint_settled = project_settled ConstraintEntry one_entry
 
-first_bad : {A : Type 0} (Part : List ℕ → A → Type 0) (parts : List (List ℕ)) (cause : Cause) → First Part (BadAsNone Part) parts cause → cause ≡ BadConstraint
+first_bad : {A : Type 0} (Part : List ℕ → A → Type 0) (parts : List (List ℕ)) (cause : Cause) → First Part (IsBadConstraint Part) parts cause → cause ≡ BadConstraint
 first_bad Part parts cause (here fault) = fault.is
 first_bad Part parts cause (later {parts = rest} is first) = first_bad Part rest cause first
 
-never_asked : (parts : List (List ℕ)) (cause : Cause) → asked_alone parts ≡ None → First Flag (BadAsNone Flag) parts cause → (w : What) → Asked parts w → ⊥
+never_asked : (parts : List (List ℕ)) (cause : Cause) → asked_alone parts ≡ None → First Flag (IsBadConstraint Flag) parts cause → (w : What) → Required parts w → ⊥
 never_asked parts cause h first w (alone e) = some_none w (asked_alone parts) e h
-never_asked parts cause h first w (flags set each is) = each_or_first Flag (BadAsNone Flag) (λ part flag c is fault. fault.stands_for_none flag is) parts set cause each first
+never_asked parts cause h first w (flags set each is) = each_or_first Flag (IsBadConstraint Flag) (λ part flag c is fault. fault.stands_for_none flag is) parts set cause each first
 
-pub bad_asked : (parts : List (List ℕ)) → asked_alone parts ≡ None → (cause : Cause) → First Flag (BadAsNone Flag) parts cause → (cause ≡ BadConstraint) × ((w : What) → Asked parts w → ⊥)
+pub bad_asked : (parts : List (List ℕ)) → asked_alone parts ≡ None → (cause : Cause) → First Flag (IsBadConstraint Flag) parts cause → (cause ≡ BadConstraint) × ((w : What) → Required parts w → ⊥)
 bad_asked parts h cause first = (first_bad Flag parts cause first, never_asked parts cause h first)
 
-pub never_asks : (text : List ℕ) → ((r : Range) → Stands V3_0 64 text r → ⊥) → ((w : What) → Asked (words text) w → ⊥) → (w : What) → Asks text w → ⊥
+pub never_asks : (text : List ℕ) → ((r : Range) → Stands V3_0 64 text r → ⊥) → ((w : What) → Required (words text) w → ⊥) → (w : What) → Requires text w → ⊥
 never_asks text no_range never w (range r h is) = no_range r h
 never_asks text no_range never w (other none' a) = never w a
 
-pub bad_target : (text : List ℕ) (cause : Cause) → (cause ≡ BadConstraint) × ((scope : Scope) («package» rest : List ℕ) → Target text scope «package» rest → ⊥) → BadAsNone ConstraintEntry text cause
+pub bad_target : (text : List ℕ) (cause : Cause) → (cause ≡ BadConstraint) × ((scope : Scope) («package» rest : List ℕ) → Target text scope «package» rest → ⊥) → IsBadConstraint ConstraintEntry text cause
 bad_target text cause never = record { is = never.0; stands_for_none = λ x e. never.1 x.scope x.«package» e.rest e.target }
 
-pub bad_what : (text : List ℕ) (scope : Scope) («package» rest : List ℕ) → Target text scope «package» rest → (cause : Cause) → BadAsNone Asks rest cause → BadAsNone ConstraintEntry text cause
+pub bad_what : (text : List ℕ) (scope : Scope) («package» rest : List ℕ) → Target text scope «package» rest → (cause : Cause) → IsBadConstraint Requires rest cause → IsBadConstraint ConstraintEntry text cause
 bad_what text scope «package» rest target cause fault = record {
   is = fault.is;
   stands_for_none = λ x e. let t = one_target text scope x.scope «package» x.«package» rest e.rest target e.target in
-      fault.stands_for_none x.what (subst (λ r. Asks r x.what) (sym t.2) e.asks);
+      fault.stands_for_none x.what (subst (λ r. Requires r x.what) (sym t.2) e.asks);
 }
 
-pub constraint_entry : (text : List ℕ) (x : Constraint) (name rest : List ℕ) → Target text x.scope name rest → is_package_name name ≡ true → x.«package» ≡ name → Asks rest x.what → ConstraintEntry text x
+pub constraint_entry : (text : List ℕ) (x : Constraint) (name rest : List ℕ) → Target text x.scope name rest → is_package_name name ≡ true → x.«package» ≡ name → Requires rest x.what → ConstraintEntry text x
 constraint_entry text x name rest target h e asks = record {
   rest = rest;
   target = subst (λ p. Target text x.scope p rest) (sym e) target;

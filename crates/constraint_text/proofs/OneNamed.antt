@@ -6,10 +6,10 @@ use Rattle.version_range.proofs.Exact.{one_range}
 use Rattle.entry_text.specs.Words.{behind_name}
 use Rattle.constraint_text.specs.Named.{NamedEntry}
 use Rattle.entry_text.proofs.Only.{Settled}
-use Rattle.constraint_text.specs.Faults.{BadAsNone}
+use Rattle.constraint_text.specs.Faults.{IsBadConstraint}
 
 -- in a project, `BadConstraint` is the only fault of a part, and excludes a reading
-pub project_settled : {A : Type 0} (Part : List ℕ → A → Type 0) → ((part : List ℕ) (x y : A) → Part part x → Part part y → x ≡ y) → Settled Part (BadAsNone Part)
+pub project_settled : {A : Type 0} (Part : List ℕ → A → Type 0) → ((part : List ℕ) (x y : A) → Part part x → Part part y → x ≡ y) → Settled Part (IsBadConstraint Part)
 project_settled Part one = record {
   one = one;
   one_fault = λ part c d f g. f.is ∙ sym g.is;
@@ -21,5 +21,5 @@ one_entry text x y e f =
     let range = one_range V3_0 64 (behind_name text) x.range y.range e.range f.range in
     λ i. record { name = (e.name ∙ sym f.name) i; range = range i }
 
-pub named_settled : Settled NamedEntry (BadAsNone NamedEntry)
+pub named_settled : Settled NamedEntry (IsBadConstraint NamedEntry)
 named_settled = project_settled NamedEntry one_entry

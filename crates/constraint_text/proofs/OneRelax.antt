@@ -24,14 +24,14 @@ use Rattle.std.specs.List.{filter_map}
 use Rattle.std.proofs.lemmas.Bool.{and_parts, eqb-true}
 use Rattle.plan_types.specs.declared.refusal.TextFault.{TextFault}
 use Rattle.plan_types.specs.Refusal.{Refuses}
-use Rattle.entry_text.specs.Entries.{Lists}
+use Rattle.entry_text.specs.Entries.{HasEntries}
 use Rattle.constraint_text.specs.Relaxes.{Relaxes, RelaxFault}
 use Rattle.entry_text.proofs.Cuts.{texts}
 use Rattle.entry_text.proofs.Found.{refuses_so}
 use Rattle.entry_text.proofs.Only.{Settled, one_reading, one_first, reading_or_fault}
 use Rattle.constraint_text.proofs.Dashes.{same_cut}
 use Rattle.common_laws.specs.Small.{tail_same}
-use Rattle.constraint_text.specs.Faults.{BadAsNone}
+use Rattle.constraint_text.specs.Faults.{IsBadConstraint}
 use Rattle.constraint_text.proofs.OneNamed.{project_settled}
 
 not_empty : (name digits : List ℕ) → [] ≡ name ++ 45 ∷ digits → ⊥
@@ -102,7 +102,7 @@ one_word e = cc
 one_entry : (text : List ℕ) (x y : Option Relax) → RelaxEntry text x → RelaxEntry text y → x ≡ y
 one_entry text x y e f = one_relaxed f.word x y (subst (λ w. RelaxedBy w x) (one_word (sym e.alone ∙ f.alone)) e.relaxed) f.relaxed
 
-pub relax_settled : Settled RelaxEntry (BadAsNone RelaxEntry)
+pub relax_settled : Settled RelaxEntry (IsBadConstraint RelaxEntry)
 relax_settled = project_settled RelaxEntry one_entry
 
 -- ---- results of calls
@@ -113,7 +113,7 @@ pub bad_release : (text name digits : List ℕ) → text ≡ name ++ 45 ∷ digi
 bad_release text name digits e h (inl bad) n v r = let p = same_cut name n digits r.digits h r.last (sym e ∙ r.cut) in true≢false (sym r.form ∙ ap is_package_name (sym p.0) ∙ bad)
 bad_release text name digits e h (inr bad) n v r = let p = same_cut name n digits r.digits h r.last (sym e ∙ r.cut) in bad v.parts r.numbers (p.1 ∙ r.is)
 
-pub bad_owner : (text : List ℕ) → (text ≡ codes "*" → ⊥) → is_package_name text ≡ false → (cause : Cause) → (cause ≡ BadConstraint) × ((n : List ℕ) (v : Version) → Release text n v → ⊥) → BadAsNone Owner text cause
+pub bad_owner : (text : List ℕ) → (text ≡ codes "*" → ⊥) → is_package_name text ≡ false → (cause : Cause) → (cause ≡ BadConstraint) × ((n : List ℕ) (v : Version) → Release text n v → ⊥) → IsBadConstraint Owner text cause
 bad_owner text s h cause never = record { is = never.0; stands_for_none = λ owner o. by owner o }
   where
     by : (owner : RelaxOwner) → Owner text owner → ⊥
@@ -121,7 +121,7 @@ bad_owner text s h cause never = record { is = never.0; stands_for_none = λ own
     by owner (Owner.named k g) = true≢false (sym k ∙ h)
     by owner (Owner.release n v k r g) = never.1 n v r
 
-pub bad_relaxed : (word : List ℕ) → relaxing_word word ≡ None → (cause : Cause) → BadAsNone Dependency word cause → BadAsNone RelaxedBy word cause
+pub bad_relaxed : (word : List ℕ) → relaxing_word word ≡ None → (cause : Cause) → IsBadConstraint Dependency word cause → IsBadConstraint RelaxedBy word cause
 bad_relaxed word h cause fault = record { is = fault.is; stands_for_none = by }
   where
     by : (x : Option Relax) → RelaxedBy word x → ⊥
@@ -171,17 +171,17 @@ pub refused_reading : (text : List ℕ) (result : Result (List Relax) TextFault)
     → (xs : List Relax) → Relaxes text xs → MatchResult result (λ found. found ≡ xs) (Refuses (λ _. ⊥))
 refused_reading text result fault e h xs r =
     subst (λ t. MatchResult t (λ found. found ≡ xs) (Refuses (λ _. ⊥))) (sym e)
-    (refuses_so fault (λ c f. reading_or_fault RelaxEntry (BadAsNone RelaxEntry) relax_settled.not_both text r.each c r.entries f) h)
+    (refuses_so fault (λ c f. reading_or_fault RelaxEntry (IsBadConstraint RelaxEntry) relax_settled.not_both text r.each c r.entries f) h)
 
 pub refused_fault : (text : List ℕ) (result : Result (List Relax) TextFault) (fault : TextFault) → result ≡ Err fault → Refuses (RelaxFault text) fault
     → (c : Cause) → RelaxFault text c → MatchResult result (λ _. ⊥) (Refuses (λ why. why ≡ c))
 refused_fault text result fault e h c g =
     subst (λ t. MatchResult t (λ _. ⊥) (Refuses (λ why. why ≡ c))) (sym e)
-    (refuses_so fault (λ d f. one_first RelaxEntry (BadAsNone RelaxEntry) relax_settled text d c f g) h)
+    (refuses_so fault (λ d f. one_first RelaxEntry (IsBadConstraint RelaxEntry) relax_settled text d c f g) h)
 
-pub given_reading : (text : List ℕ) (each : List (Option Relax)) (found : List Relax) → Lists RelaxEntry text each → found ≡ filter_map (λ relax. relax) each
+pub given_reading : (text : List ℕ) (each : List (Option Relax)) (found : List Relax) → HasEntries RelaxEntry text each → found ≡ filter_map (λ relax. relax) each
     → (xs : List Relax) → Relaxes text xs → found ≡ xs
 given_reading text each found is e xs r = e ∙ ap (filter_map (λ relax. relax)) (one_reading RelaxEntry relax_settled.one text each r.each is r.entries) ∙ sym r.is
 
-pub no_fault : (text : List ℕ) (each : List (Option Relax)) → Lists RelaxEntry text each → (c : Cause) → RelaxFault text c → ⊥
-no_fault text each is c f = reading_or_fault RelaxEntry (BadAsNone RelaxEntry) relax_settled.not_both text each c is f
+pub no_fault : (text : List ℕ) (each : List (Option Relax)) → HasEntries RelaxEntry text each → (c : Cause) → RelaxFault text c → ⊥
+no_fault text each is c f = reading_or_fault RelaxEntry (IsBadConstraint RelaxEntry) relax_settled.not_both text each c is f

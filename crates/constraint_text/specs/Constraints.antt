@@ -13,9 +13,9 @@ use Rattle.plan_types.specs.declared.range.Range.{Range}
 use Rattle.plan_types.specs.declared.range.Spec.TheVariants.{V3_0}
 use Rattle.plan_types.specs.declared.refusal.Cause.{Cause}
 use Rattle.version_range.specs.Grammar.{Stands}
-use Rattle.entry_text.specs.Entries.{Each, Lists, Faulty}
+use Rattle.entry_text.specs.Entries.{Each, HasEntries, HasFirstFault}
 use Rattle.entry_text.specs.Words.{run, behind, is_name_byte, name_of, behind_name, words}
-use Rattle.constraint_text.specs.Faults.{BadAsNone}
+use Rattle.constraint_text.specs.Faults.{IsBadConstraint}
 
 -- the scope of a word before a point
 abbrev pub scope_of : List ℕ → Option Scope
@@ -31,8 +31,8 @@ pub data Target (text : List ℕ) (scope : Scope) («package» rest : List ℕ) 
       → «package» ≡ run is_name_byte more → rest ≡ behind is_name_byte more → Target text scope «package» rest
 
 -- the requirement of one word
-abbrev pub asked_by : List ℕ → Option What
-asked_by part =
+abbrev pub required_by : List ℕ → Option What
+required_by part =
     if same_text part (codes "installed") then Some what.Installed
     else if same_text part (codes "source") then Some what.Source
     else if same_text part (codes "test") then Some what.Tests
@@ -47,31 +47,31 @@ pub data Flag (word : List ℕ) (flag : FlagSet) : Type 0 where
 -- the requirement of a single word
 abbrev pub asked_alone : List (List ℕ) → Option What
 asked_alone [] = None
-asked_alone (part ∷ []) = asked_by part
+asked_alone (part ∷ []) = required_by part
 asked_alone (part ∷ next ∷ parts) = None
 
 -- a word, or flags
-pub data Asked (parts : List (List ℕ)) (found : What) : Type 0 where
-  alone : asked_alone parts ≡ Some found → Asked parts found
-  flags : (set : List FlagSet) → Each Flag parts set → found ≡ what.Flags set → Asked parts found
+pub data Required (parts : List (List ℕ)) (found : What) : Type 0 where
+  alone : asked_alone parts ≡ Some found → Required parts found
+  flags : (set : List FlagSet) → Each Flag parts set → found ≡ what.Flags set → Required parts found
 
 -- The requirement of a text: a range if the text is one, else a word or flags. So blanks are any version, and `-any`
 -- and `-none` alone are no flags.
-pub data Asks (text : List ℕ) (found : What) : Type 0 where
-  range : (r : Range) → Stands V3_0 64 text r → found ≡ what.Range r → Asks text found
-  other : ((r : Range) → Stands V3_0 64 text r → ⊥) → Asked (words text) found → Asks text found
+pub data Requires (text : List ℕ) (found : What) : Type 0 where
+  range : (r : Range) → Stands V3_0 64 text r → found ≡ what.Range r → Requires text found
+  other : ((r : Range) → Stands V3_0 64 text r → ⊥) → Required (words text) found → Requires text found
 
 -- a package in a scope, and its requirement
 pub record ConstraintEntry (text : List ℕ) (found : Constraint) : Type 0 where
   pub rest : List ℕ
   pub target : Target text found.scope found.«package» rest
   pub form : is_package_name found.«package» ≡ true
-  pub asks : Asks rest found.what
+  pub asks : Requires rest found.what
 
 -- the constraints of `constraints`
 abbrev pub Constraints : List ℕ → List Constraint → Type 0
-Constraints = Lists ConstraintEntry
+Constraints = HasEntries ConstraintEntry
 
 -- the fault of such a text
 abbrev pub ConstraintsFault : List ℕ → Cause → Type 0
-ConstraintsFault = Faulty ConstraintEntry (BadAsNone ConstraintEntry)
+ConstraintsFault = HasFirstFault ConstraintEntry (IsBadConstraint ConstraintEntry)

@@ -2,7 +2,7 @@
 use Rattle.std.specs.Prelude.{◌≡◌, true, refl, codes, Some, None}
 use Rattle.plan_types.specs.declared.constraint.Scope.TheVariants.{Setup}
 use Rattle.plan_types.specs.declared.constraint.What.TheVariants.{Tests}
-use Rattle.constraint_text.specs.Constraints.{scope_of, asked_by}
+use Rattle.constraint_text.specs.Constraints.{scope_of, required_by}
 use Rattle.constraint_text.specs.Relaxes.{relaxing_word}
 
 every_setup : scope_of (codes "setup") ≡ Some Setup
@@ -11,7 +11,7 @@ every_setup = refl
 no_scope : scope_of (codes "Any") ≡ None
 no_scope = refl
 
-the_tests : asked_by (codes "test") ≡ Some Tests
+the_tests : required_by (codes "test") ≡ Some Tests
 the_tests = refl
 
 everything_in_any_case : relaxing_word (codes "ALL") ≡ Some true

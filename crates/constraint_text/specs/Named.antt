@@ -5,9 +5,9 @@ use Rattle.plan_types.specs.declared.dependency.Named.{Named}
 use Rattle.plan_types.specs.declared.range.Spec.TheVariants.{V3_0}
 use Rattle.plan_types.specs.declared.refusal.Cause.{Cause}
 use Rattle.version_range.specs.Grammar.{Stands}
-use Rattle.entry_text.specs.Entries.{Lists, Faulty}
+use Rattle.entry_text.specs.Entries.{HasEntries, HasFirstFault}
 use Rattle.entry_text.specs.Words.{name_of, behind_name}
-use Rattle.constraint_text.specs.Faults.{BadAsNone}
+use Rattle.constraint_text.specs.Faults.{IsBadConstraint}
 
 -- a package and a range
 pub record NamedEntry (text : List ℕ) (found : Named) : Type 0 where
@@ -17,8 +17,8 @@ pub record NamedEntry (text : List ℕ) (found : Named) : Type 0 where
 
 -- the named ranges of `extra-packages` and `preferences`
 abbrev pub NamedRanges : List ℕ → List Named → Type 0
-NamedRanges = Lists NamedEntry
+NamedRanges = HasEntries NamedEntry
 
 -- the fault of such a text
 abbrev pub NamedFault : List ℕ → Cause → Type 0
-NamedFault = Faulty NamedEntry (BadAsNone NamedEntry)
+NamedFault = HasFirstFault NamedEntry (IsBadConstraint NamedEntry)

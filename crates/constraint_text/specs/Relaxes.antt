@@ -9,10 +9,10 @@ use Rattle.plan_types.specs.declared.dependency.RelaxOwner.TheVariants as owners
 use Rattle.plan_types.specs.declared.version.Version.{Version}
 use Rattle.plan_types.specs.declared.refusal.Cause.{Cause}
 use Rattle.version_range.specs.Version.{is_version, version_text}
-use Rattle.entry_text.specs.Entries.{Lists, Faulty}
+use Rattle.entry_text.specs.Entries.{HasEntries, HasFirstFault}
 use Rattle.entry_text.specs.Words.{run, behind, words}
 use Rattle.plan_types.specs.Bytes.{same_text}
-use Rattle.constraint_text.specs.Faults.{BadAsNone}
+use Rattle.constraint_text.specs.Faults.{IsBadConstraint}
 
 -- whether a word relaxes all dependencies (true) or none (false); letters are in any case
 abbrev pub relaxing_word : List ℕ → Option Bool
@@ -68,9 +68,9 @@ pub record RelaxEntry (text : List ℕ) (found : Option Relax) : Type 0 where
 -- the relaxings of `allow-newer` and `allow-older`
 pub record Relaxes (text : List ℕ) (found : List Relax) : Type 0 where
   pub each : List (Option Relax)
-  pub entries : Lists RelaxEntry text each
+  pub entries : HasEntries RelaxEntry text each
   pub is : found ≡ filter_map (λ relax. relax) each
 
 -- the fault of such a text
 abbrev pub RelaxFault : List ℕ → Cause → Type 0
-RelaxFault = Faulty RelaxEntry (BadAsNone RelaxEntry)
+RelaxFault = HasFirstFault RelaxEntry (IsBadConstraint RelaxEntry)

@@ -8,9 +8,9 @@ ghost use Rattle.plan_types.specs.declared.refusal.Cause.{Cause};
 ghost use Rattle.plan_types.specs.declared.refusal.Cause.TheVariants.{BadConstraint};
 ghost use Rattle.plan_types.specs.Name.{is_flag_name, is_package_name};
 ghost use Rattle.plan_types.specs.Refusal.{Refuses};
-ghost use Rattle.constraint_text.specs.Faults.{BadAsNone};
+ghost use Rattle.constraint_text.specs.Faults.{IsBadConstraint};
 ghost use Rattle.entry_text.specs.Words.{run, behind as after, is_name_byte, words};
-ghost use Rattle.constraint_text.specs.Constraints.{Constraints, ConstraintsFault, Target, scope_of, asked_by, asked_alone, Asked, Asks};
+ghost use Rattle.constraint_text.specs.Constraints.{Constraints, ConstraintsFault, Target, scope_of, required_by, asked_alone, Required, Requires};
 
 use entry_text::{
     Row, component_text, name_at, name_run, package_text, read_each, read_entries, words,
@@ -39,14 +39,14 @@ pub fn read_constraints(alloc: Global, text: &[u8]) -> Result<List<Constraint>, 
 struct ConstraintRow;
 
 impl Row for ConstraintRow {
-    ghost use Rattle.constraint_text.specs.Faults.{BadAsNone};
+    ghost use Rattle.constraint_text.specs.Faults.{IsBadConstraint};
     ghost use Rattle.constraint_text.specs.Constraints.{ConstraintEntry};
 
     type Item = Constraint;
 
     ghost stands = { λ row. ConstraintEntry };
 
-    ghost fails = { λ row. BadAsNone ConstraintEntry };
+    ghost fails = { λ row. IsBadConstraint ConstraintEntry };
 
     fn read(&self, alloc: Global, part: &[u8]) -> Result<Constraint, TextFault> {
         let (scope, name, rest) = target(alloc, part)?;
@@ -130,8 +130,8 @@ fn behind_setup(text: &[u8]) -> Option<&[u8]>
 
 // A range; if the text is none, a word or flags.
 fn what(alloc: Global, text: &[u8]) -> Result<What, TextFault>
-    ensures found { IfOk result (Asks text.now) }
-    ensures fault { IfErr result (Refuses (BadAsNone Asks text.now)) }
+    ensures found { IfOk result (Requires text.now) }
+    ensures fault { IfErr result (Refuses (IsBadConstraint Requires text.now)) }
 {
     match read_range(alloc, text, Spec::V3_0) {
         Ok(range) => Ok(What::Range(range)),
@@ -141,18 +141,18 @@ fn what(alloc: Global, text: &[u8]) -> Result<What, TextFault>
 }
 
 fn word_or_flags(alloc: Global, text: &[u8]) -> Result<What, TextFault>
-    ensures found { IfOk result (Asked (words text.now)) }
+    ensures found { IfOk result (Required (words text.now)) }
     ensures fault { IfErr result (Refuses
-        (λ cause. (cause ≡ BadConstraint) × ((what : What) → Asked (words text.now) what → ⊥))) }
+        (λ cause. (cause ≡ BadConstraint) × ((what : What) → Required (words text.now) what → ⊥))) }
 {
     let words = words(alloc, text)?;
     asked(alloc, words.as_slice())
 }
 
 fn asked(alloc: Global, words: &[&[u8]]) -> Result<What, TextFault>
-    ensures found { IfOk result (Asked (map (λ word. word.now) words.now)) }
+    ensures found { IfOk result (Required (map (λ word. word.now) words.now)) }
     ensures fault { IfErr result (Refuses (λ cause. (cause ≡ BadConstraint)
-        × ((what : What) → Asked (map (λ word. word.now) words.now) what → ⊥))) }
+        × ((what : What) → Required (map (λ word. word.now) words.now) what → ⊥))) }
 {
     match asked_alone(words) {
         Some(what) => Ok(what),
@@ -167,13 +167,13 @@ fn asked_alone(words: &[&[u8]]) -> Option<What>
     ensures { result ≡ asked_alone (map (λ word. word.now) words.now) }
 {
     match words {
-        [word] => asked_by(word),
+        [word] => required_by(word),
         _ => None,
     }
 }
 
-fn asked_by(word: &[u8]) -> Option<What>
-    ensures { result ≡ asked_by word.now }
+fn required_by(word: &[u8]) -> Option<What>
+    ensures { result ≡ required_by word.now }
 {
     if word == b"installed".as_slice() {
         Some(What::Installed)
@@ -192,14 +192,14 @@ fn asked_by(word: &[u8]) -> Option<What>
 struct FlagRow;
 
 impl Row for FlagRow {
-    ghost use Rattle.constraint_text.specs.Faults.{BadAsNone};
+    ghost use Rattle.constraint_text.specs.Faults.{IsBadConstraint};
     ghost use Rattle.constraint_text.specs.Constraints.{Flag};
 
     type Item = FlagSet;
 
     ghost stands = { λ row. Flag };
 
-    ghost fails = { λ row. BadAsNone Flag };
+    ghost fails = { λ row. IsBadConstraint Flag };
 
     fn read(&self, alloc: Global, part: &[u8]) -> Result<FlagSet, TextFault> {
         if let Some(name) = byte_after(part, b'+') {

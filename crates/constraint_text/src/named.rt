@@ -6,7 +6,7 @@ ghost use Rattle.plan_types.specs.declared.range.Spec.TheVariants.{V3_0};
 ghost use Rattle.plan_types.specs.declared.refusal.Cause.{Cause};
 ghost use Rattle.plan_types.specs.Refusal.{Refuses};
 ghost use Rattle.version_range.specs.Grammar.{Stands};
-ghost use Rattle.constraint_text.specs.Faults.{BadAsNone};
+ghost use Rattle.constraint_text.specs.Faults.{IsBadConstraint};
 ghost use Rattle.constraint_text.specs.Named.{NamedRanges, NamedFault};
 
 use entry_text::{Row, name_at, package_text, read_entries};
@@ -29,7 +29,7 @@ pub fn read_named(alloc: Global, text: &[u8]) -> Result<List<Named>, TextFault>
 /// Reads a range in a project. Each fault is `BadConstraint`.
 pub fn project_range(alloc: Global, text: &[u8]) -> Result<Range, TextFault>
     ensures found { IfOk result (Stands V3_0 64 text.now) }
-    ensures fault { IfErr result (Refuses (BadAsNone (Stands V3_0 64) text.now)) }
+    ensures fault { IfErr result (Refuses (IsBadConstraint (Stands V3_0 64) text.now)) }
 {
     match read_range(alloc, text, Spec::V3_0) {
         Ok(range) => Ok(range),
@@ -42,14 +42,14 @@ pub fn project_range(alloc: Global, text: &[u8]) -> Result<Range, TextFault>
 struct NamedRow;
 
 impl Row for NamedRow {
-    ghost use Rattle.constraint_text.specs.Faults.{BadAsNone};
+    ghost use Rattle.constraint_text.specs.Faults.{IsBadConstraint};
     ghost use Rattle.constraint_text.specs.Named.{NamedEntry};
 
     type Item = Named;
 
     ghost stands = { λ row. NamedEntry };
 
-    ghost fails = { λ row. BadAsNone NamedEntry };
+    ghost fails = { λ row. IsBadConstraint NamedEntry };
 
     fn read(&self, alloc: Global, part: &[u8]) -> Result<Named, TextFault> {
         let (name, behind) = name_at(part);

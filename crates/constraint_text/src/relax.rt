@@ -10,7 +10,7 @@ ghost use Rattle.plan_types.specs.Bytes.{same_text};
 ghost use Rattle.plan_types.specs.Name.{is_package_name};
 ghost use Rattle.version_range.specs.Version.{is_version, version_text};
 ghost use Rattle.plan_types.specs.Refusal.{Refuses};
-ghost use Rattle.constraint_text.specs.Faults.{BadAsNone};
+ghost use Rattle.constraint_text.specs.Faults.{IsBadConstraint};
 ghost use Rattle.entry_text.specs.Words.{run, behind, words};
 ghost use Rattle.constraint_text.specs.Relaxes.{Relaxes, RelaxFault, relaxing_word, is_no_colon, is_no_dash, Release, Owner, Dependency, RelaxedBy, RelaxEntry};
 
@@ -52,14 +52,14 @@ fn present(alloc: Global, each: List<Option<Relax>>) -> Result<List<Relax>, NoMe
 struct RelaxRow;
 
 impl Row for RelaxRow {
-    ghost use Rattle.constraint_text.specs.Faults.{BadAsNone};
+    ghost use Rattle.constraint_text.specs.Faults.{IsBadConstraint};
     ghost use Rattle.constraint_text.specs.Relaxes.{RelaxEntry};
 
     type Item = Option<Relax>;
 
     ghost stands = { λ row. RelaxEntry };
 
-    ghost fails = { λ row. BadAsNone RelaxEntry };
+    ghost fails = { λ row. IsBadConstraint RelaxEntry };
 
     fn read(&self, alloc: Global, part: &[u8]) -> Result<Option<Relax>, TextFault> {
         let words = words(alloc, part)?;
@@ -82,7 +82,7 @@ fn relaxed(alloc: Global, words: &[&[u8]]) -> Result<Option<Relax>, TextFault>
 
 fn relaxed_by(alloc: Global, word: &[u8]) -> Result<Option<Relax>, TextFault>
     ensures found { IfOk result (RelaxedBy word.now) }
-    ensures fault { IfErr result (Refuses (BadAsNone RelaxedBy word.now)) }
+    ensures fault { IfErr result (Refuses (IsBadConstraint RelaxedBy word.now)) }
 {
     match relaxing_word(word) {
         Some(true) => Ok(Some(Relax {
@@ -115,7 +115,7 @@ fn relaxing_word(word: &[u8]) -> Option<bool>
 
 fn dependency(alloc: Global, word: &[u8]) -> Result<Relax, TextFault>
     ensures found { IfOk result (Dependency word.now) }
-    ensures fault { IfErr result (Refuses (BadAsNone Dependency word.now)) }
+    ensures fault { IfErr result (Refuses (IsBadConstraint Dependency word.now)) }
 {
     let (front, behind) = owner_run(word);
     if behind.is_empty() {
@@ -203,7 +203,7 @@ fn owner_len(word: &[u8]) -> usize
 
 fn owner(alloc: Global, text: &[u8]) -> Result<RelaxOwner, TextFault>
     ensures found { IfOk result (Owner text.now) }
-    ensures fault { IfErr result (Refuses (BadAsNone Owner text.now)) }
+    ensures fault { IfErr result (Refuses (IsBadConstraint Owner text.now)) }
 {
     if is_star(text) {
         return Ok(RelaxOwner::Any);

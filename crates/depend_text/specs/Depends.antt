@@ -13,7 +13,7 @@ use Rattle.plan_types.specs.declared.range.Spec.{Spec}
 use Rattle.plan_types.specs.declared.refusal.Cause.{Cause}
 use Rattle.plan_types.specs.declared.refusal.Cause.TheVariants.{BadName, BadDepend, NeedsVersion}
 use Rattle.version_range.specs.Grammar.{Stands, FirstFault}
-use Rattle.entry_text.specs.Entries.{Pieces, Each, Lists, Faulty}
+use Rattle.entry_text.specs.Entries.{Pieces, Each, HasEntries, HasFirstFault}
 use Rattle.entry_text.specs.Words.{run, behind, is_in_braces, name_of, behind_name}
 
 -- the library with this name; the name of its package means the main one
@@ -97,16 +97,16 @@ pub data ToolFault (spec : Spec) (text : List ℕ) (cause : Cause) : Type 0 wher
 
 -- the dependencies of `build-depends` and `setup-depends`
 abbrev pub Depends : Spec → DepKind → ℕ → List ℕ → List Dep → Type 0
-Depends spec kind line = Lists (LibraryEntry spec kind line)
+Depends spec kind line = HasEntries (LibraryEntry spec kind line)
 
 -- the fault of such a text
 abbrev pub DependsFault : Spec → DepKind → ℕ → List ℕ → Cause → Type 0
-DependsFault spec kind line = Faulty (LibraryEntry spec kind line) (LibraryFault spec)
+DependsFault spec kind line = HasFirstFault (LibraryEntry spec kind line) (LibraryFault spec)
 
 -- the dependencies of `build-tool-depends`
 abbrev pub Tools : Spec → ℕ → List ℕ → List Dep → Type 0
-Tools spec line = Lists (ToolEntry spec line)
+Tools spec line = HasEntries (ToolEntry spec line)
 
 -- the fault of such a text
 abbrev pub ToolsFault : Spec → ℕ → List ℕ → Cause → Type 0
-ToolsFault spec line = Faulty (ToolEntry spec line) (ToolFault spec)
+ToolsFault spec line = HasFirstFault (ToolEntry spec line) (ToolFault spec)

@@ -9,9 +9,9 @@ use Rattle.plan_types.specs.declared.refusal.Fault.TheVariants as fault
 use Rattle.description.specs.FaultOrder.{IsOnly, is_at}
 use Rattle.description.specs.declared.fault_order.At.{At}
 
-pub is-only : {A : Type 0} (Comes : Result A At → Type 0) → ((a b : Result A At) → Comes a → Comes b → a ≡ b) → (result : Result A Fault)
-    → IfOk result (λ x. Comes (Ok x)) → IfErr result (RefusesAt (λ line cause. Comes (Err (is_at line cause)))) → IsOnly Comes result
+pub is-only : {A : Type 0} (IsFaultlessOutcome : Result A At → Type 0) → ((a b : Result A At) → IsFaultlessOutcome a → IsFaultlessOutcome b → a ≡ b) → (result : Result A Fault)
+    → IfOk result (λ x. IsFaultlessOutcome (Ok x)) → IfErr result (RefusesAt (λ line cause. IsFaultlessOutcome (Err (is_at line cause)))) → IsOnly IsFaultlessOutcome result
 unfolding IsOnly
-is-only Comes one (Ok found) is refused = λ outcome comes. one outcome (Ok found) comes is
-is-only Comes one (Err fault.NoMemory) is refused = tt
-is-only Comes one (Err (fault.At line cause)) is refused = λ outcome comes. one outcome (Err (is_at line cause)) comes refused
+is-only IsFaultlessOutcome one (Ok found) is refused = λ outcome comes. one outcome (Ok found) comes is
+is-only IsFaultlessOutcome one (Err fault.NoMemory) is refused = tt
+is-only IsFaultlessOutcome one (Err (fault.At line cause)) is refused = λ outcome comes. one outcome (Err (is_at line cause)) comes refused

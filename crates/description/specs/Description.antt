@@ -25,7 +25,7 @@ use Rattle.section_syntax.specs.declared.part.Section.{Section}
 use Rattle.package_declarations.specs.Components.{components}
 use Rattle.package_declarations.specs.Cycles.{needs}
 use Rattle.package_declarations.specs.Declarations.{own_name}
-use Rattle.text_grammar.specs.Last.{last_said}
+use Rattle.text_grammar.specs.Last.{last_given}
 use Rattle.description.specs.Faults.{faults}
 use Rattle.description.specs.FaultOrder.{first}
 use Rattle.package_declarations.specs.Flags.{AreFlags}
@@ -58,7 +58,7 @@ version_said (head.BuildType custom) = None
 
 -- the last well-formed version
 abbrev pub version_of : List HeadField → Option Version
-version_of heads = last_said (λ field. version_said field.head) heads
+version_of heads = last_given (λ field. version_said field.head) heads
 
 -- the line, if this is a `build-tools` field
 abbrev pub is_build_tools : Said → List ℕ → List ℕ
@@ -109,22 +109,22 @@ unless_circular None d = Ok d
 unless_circular (Some n) d = Err (record { line = line_of d.components n; cause = ComponentCycle })
 
 -- the outcome of a file without faults of its own
-abbrev pub Comes : File → List ℕ → Option (List ℕ) → Option Version → Result Description At → Type 0
-Comes file digest None version outcome = outcome ≡ Err missing
-Comes file digest (Some name) None outcome = outcome ≡ Err missing
-Comes file digest (Some name) (Some version) outcome =
+abbrev pub IsFaultlessOutcome : File → List ℕ → Option (List ℕ) → Option Version → Result Description At → Type 0
+IsFaultlessOutcome file digest None version outcome = outcome ≡ Err missing
+IsFaultlessOutcome file digest (Some name) None outcome = outcome ≡ Err missing
+IsFaultlessOutcome file digest (Some name) (Some version) outcome =
     (d : Description) × IsDescriptionOf file digest name version d
     × (circular : Option ℕ) × IsFirstOnCycle (needs d.components) circular × (outcome ≡ unless_circular circular d)
 
 -- The outcome of a file: its first fault, then a missing name or version, then a cycle of components.
-abbrev pub ComesTo : File → List ℕ → Option At → Result Description At → Type 0
-ComesTo file digest (Some at) outcome = outcome ≡ Err at
-ComesTo file digest None outcome = Comes file digest (own_name file.heads) (version_of file.heads) outcome
+abbrev pub IsFileOutcome : File → List ℕ → Option At → Result Description At → Type 0
+IsFileOutcome file digest (Some at) outcome = outcome ≡ Err at
+IsFileOutcome file digest None outcome = IsFaultlessOutcome file digest (own_name file.heads) (version_of file.heads) outcome
 
 -- the outcome of elements in a format
 abbrev pub OfVersion : Result Spec At → List Element → List ℕ → Result Description At → Type 0
 OfVersion (Err at) items digest outcome = outcome ≡ Err at
-OfVersion (Ok spec) items digest outcome = (file : File) × IsFile spec items file × ComesTo file digest (first (faults file)) outcome
+OfVersion (Ok spec) items digest outcome = (file : File) × IsFile spec items file × IsFileOutcome file digest (first (faults file)) outcome
 
 -- the elements have this outcome: a description or their first fault
 abbrev pub Describes : List Element → List ℕ → Result Description At → Type 0

@@ -14,9 +14,9 @@ is_at line cause = record { line = line; cause = cause }
 
 -- The result is the only outcome there is; nothing is known of an outcome when out of memory.
 unfoldable pub IsOnly : {A : Type 0} → (Result A At → Type 0) → Result A Fault → Type 0
-IsOnly {A = A} Comes (Ok found) = (outcome : Result A At) → Comes outcome → outcome ≡ Ok found
-IsOnly Comes (Err fault.NoMemory) = Unit {0}
-IsOnly {A = A} Comes (Err (fault.At line cause)) = (outcome : Result A At) → Comes outcome → outcome ≡ Err (is_at line cause)
+IsOnly {A = A} IsFaultlessOutcome (Ok found) = (outcome : Result A At) → IsFaultlessOutcome outcome → outcome ≡ Ok found
+IsOnly IsFaultlessOutcome (Err fault.NoMemory) = Unit {0}
+IsOnly {A = A} IsFaultlessOutcome (Err (fault.At line cause)) = (outcome : Result A At) → IsFaultlessOutcome outcome → outcome ≡ Err (is_at line cause)
 
 -- the rank of a cause among the faults of one line
 abbrev pub rank : Cause → ℕ

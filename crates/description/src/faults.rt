@@ -10,7 +10,7 @@ ghost use Rattle.description.specs.Faults.{at, class_of, file_faults, has_good_n
 ghost use Rattle.description.specs.NamesBefore.{again, names_behind, unknown_of};
 ghost use Rattle.description.specs.FaultOrder.{first};
 ghost use Rattle.stanza_imports.specs.Names.{has};
-ghost use Rattle.package_declarations.specs.DeclaredNames.{Tells};
+ghost use Rattle.package_declarations.specs.DeclaredNames.{RepresentsNames};
 
 use crate::fault_order::{At, earlier};
 use package_declarations::Declared;
@@ -23,7 +23,7 @@ use std::alloc::Global;
 
 /// The first fault of a file, except bad visibilities.
 pub fn first_fault(alloc: Global, file: &File, declared: &Declared) -> Result<Option<At>, NoMemory>
-    ensures { IfOk result (λ found. Tells declared.now file.now → found ≡ first (file_faults file.now)) }
+    ensures { IfOk result (λ found. RepresentsNames declared.now file.now → found ≡ first (file_faults file.now)) }
 {
     let sections = file.sections.as_slice();
     let found = in_heads(file.heads.as_slice());
@@ -69,7 +69,7 @@ fn in_head(field: &HeadField) -> Option<At>
 }
 
 fn in_sections(sections: &[Section], declared: &Declared) -> Option<At>
-    ensures { (file : File) → Tells declared.now file → result ≡ first (flat_map (in_section file) sections.now) }
+    ensures { (file : File) → RepresentsNames declared.now file → result ≡ first (flat_map (in_section file) sections.now) }
 {
     let mut found = None;
     for section in sections {
@@ -79,7 +79,7 @@ fn in_sections(sections: &[Section], declared: &Declared) -> Option<At>
 }
 
 fn in_section(section: &Section, declared: &Declared) -> Option<At>
-    ensures { (file : File) → Tells declared.now file → result ≡ first (in_section file section.now) }
+    ensures { (file : File) → RepresentsNames declared.now file → result ≡ first (in_section file section.now) }
 {
     let named = of_name(section, declared);
     let inside = in_parts(section.parts.as_slice(), declared);
@@ -87,7 +87,7 @@ fn in_section(section: &Section, declared: &Declared) -> Option<At>
 }
 
 fn of_name(section: &Section, declared: &Declared) -> Option<At>
-    ensures { (file : File) → Tells declared.now file
+    ensures { (file : File) → RepresentsNames declared.now file
         → result ≡ first (at section.now.line (of_name (own_name file.heads) section.now)) }
 {
     let good = has_good_name(section.kind, section.name.as_bytes());
@@ -128,7 +128,7 @@ fn has_good_name(kind: SectionKind, name: &[u8]) -> bool
 }
 
 fn in_parts(parts: &[SectionPart], declared: &Declared) -> Option<At>
-    ensures { (file : File) → Tells declared.now file → result ≡ first (flat_map (in_part file) parts.now) }
+    ensures { (file : File) → RepresentsNames declared.now file → result ≡ first (flat_map (in_part file) parts.now) }
 {
     let mut found = None;
     for part in parts {
@@ -138,7 +138,7 @@ fn in_parts(parts: &[SectionPart], declared: &Declared) -> Option<At>
 }
 
 fn in_part(part: &SectionPart, declared: &Declared) -> Option<At>
-    ensures { (file : File) → Tells declared.now file → result ≡ first (in_part file part.now) }
+    ensures { (file : File) → RepresentsNames declared.now file → result ≡ first (in_part file part.now) }
 {
     let line = part.line;
     match &part.said {
@@ -159,7 +159,7 @@ fn in_part(part: &SectionPart, declared: &Declared) -> Option<At>
 }
 
 fn of_deps(line: u32, deps: &Result<List<Dep>, Cause>, declared: &Declared) -> Option<At>
-    ensures { (file : File) → Tells declared.now file → result ≡ first (at line (of_said file (Said.Depends deps.now))) }
+    ensures { (file : File) → RepresentsNames declared.now file → result ≡ first (at line (of_said file (Said.Depends deps.now))) }
 {
     match deps {
         Ok(deps) => unless(
@@ -172,7 +172,7 @@ fn of_deps(line: u32, deps: &Result<List<Dep>, Cause>, declared: &Declared) -> O
 }
 
 fn are_known(deps: &[Dep], declared: &Declared) -> bool
-    ensures { (file : File) → Tells declared.now file → result ≡ list_all (is_known file) deps.now }
+    ensures { (file : File) → RepresentsNames declared.now file → result ≡ list_all (is_known file) deps.now }
 {
     for dep in deps {
         if !declared.is_known(dep) {
@@ -188,7 +188,7 @@ fn of_branch(
     fits: bool,
     declared: &Declared,
 ) -> Option<At>
-    ensures { (file : File) (word : BranchWord) → Tells declared.now file
+    ensures { (file : File) (word : BranchWord) → RepresentsNames declared.now file
         → result ≡ first (at line (of_said file (Said.Branch word condition.now fits))) }
 {
     let condition = of_condition(line, condition, declared);
@@ -197,7 +197,7 @@ fn of_branch(
 }
 
 fn of_condition(line: u32, condition: &Result<Guard, Cause>, declared: &Declared) -> Option<At>
-    ensures { (file : File) → Tells declared.now file → result ≡ first (at line (of_condition file.sections condition.now)) }
+    ensures { (file : File) → RepresentsNames declared.now file → result ≡ first (at line (of_condition file.sections condition.now)) }
 {
     match condition {
         Ok(cond) => unless(line, declared.has_flags(cond.get()), Cause::UnknownFlag),

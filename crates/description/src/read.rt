@@ -7,18 +7,18 @@ ghost use Rattle.std.specs.declared.result.Result.TheVariants.{Ok, Err};
 ghost use Rattle.plan_types.specs.Refusal.{RefusesAt};
 ghost use Rattle.cabal_lexer.specs.Tree.{Tree, in_front, tree_of};
 ghost use Rattle.section_syntax.specs.declared.part.File.{File};
-ghost use Rattle.section_syntax.specs.Chained.{StandInBranches};
+ghost use Rattle.section_syntax.specs.Chained.{AreSectionParts};
 ghost use Rattle.section_syntax.specs.declared.part.Section.{Section};
 ghost use Rattle.package_declarations.specs.Declarations.{own_name};
 ghost use Rattle.package_declarations.specs.Components.{components, components as components_of};
-ghost use Rattle.description.specs.Description.{Comes, ComesTo, Describes, IsDescriptionOf, cabal_version, line_of, version_of, version_said, spec_of, warning, warnings};
+ghost use Rattle.description.specs.Description.{IsFaultlessOutcome, IsFileOutcome, Describes, IsDescriptionOf, cabal_version, line_of, version_of, version_said, spec_of, warning, warnings};
 ghost use Rattle.description.specs.Faults.{bad_visibility_at, faults};
 ghost use Rattle.stanza_imports.specs.Imports.{with_imports_replaced};
 ghost use Rattle.stanza_imports.specs.Parts.{bad_visibilities};
 ghost use Rattle.description.specs.FaultOrder.{IsOnly, first, is_at};
 ghost use Rattle.common_laws.specs.Small.{capped};
-ghost use Rattle.stanza_imports.specs.Bodies.{Stand};
-ghost use Rattle.package_declarations.specs.DeclaredNames.{Tells};
+ghost use Rattle.stanza_imports.specs.Bodies.{AreBodiesOf};
+ghost use Rattle.package_declarations.specs.DeclaredNames.{RepresentsNames};
 ghost use Rattle.description.specs.ShownVersion.{shown_version};
 
 use crate::fault_order::{At, earlier};
@@ -119,9 +119,9 @@ fn spec_of(line: u32, text: &str) -> Result<Spec, Fault>
 }
 
 fn described(alloc: Global, file: &File, digest: Text) -> Result<Description, Fault>
-    requires { All (λ section. StandInBranches section.parts) file.now.sections }
-    ensures description { IfOk result (λ d. ComesTo file.now digest (first (faults file.now)) (Ok d)) }
-    ensures fault { IfErr result (RefusesAt (λ line cause. ComesTo file.now digest (first (faults file.now)) (Err (is_at line cause)))) }
+    requires { All (λ section. AreSectionParts section.parts) file.now.sections }
+    ensures description { IfOk result (λ d. IsFileOutcome file.now digest (first (faults file.now)) (Ok d)) }
+    ensures fault { IfErr result (RefusesAt (λ line cause. IsFileOutcome file.now digest (first (faults file.now)) (Err (is_at line cause)))) }
 {
     let declared = Declared::of(alloc, file)?;
     let bodies = bodies_of(alloc, file.sections.as_slice())?;
@@ -136,11 +136,11 @@ fn judged(
     declared: &Declared,
     bodies: &Bodies,
 ) -> Result<Description, Fault>
-    requires { All (λ section. StandInBranches section.parts) file.now.sections }
-    ensures description { IfOk result (λ d. Tells declared.now file.now → Stand file.now.sections bodies.now
-        → ComesTo file.now digest (first (faults file.now)) (Ok d)) }
-    ensures fault { IfErr result (RefusesAt (λ line cause. Tells declared.now file.now → Stand file.now.sections bodies.now
-        → ComesTo file.now digest (first (faults file.now)) (Err (is_at line cause)))) }
+    requires { All (λ section. AreSectionParts section.parts) file.now.sections }
+    ensures description { IfOk result (λ d. RepresentsNames declared.now file.now → AreBodiesOf file.now.sections bodies.now
+        → IsFileOutcome file.now digest (first (faults file.now)) (Ok d)) }
+    ensures fault { IfErr result (RefusesAt (λ line cause. RepresentsNames declared.now file.now → AreBodiesOf file.now.sections bodies.now
+        → IsFileOutcome file.now digest (first (faults file.now)) (Err (is_at line cause)))) }
 {
     let first = first_of_file(alloc, file, declared, bodies)?;
     match first {
@@ -156,7 +156,7 @@ fn first_of_file(
     declared: &Declared,
     bodies: &Bodies,
 ) -> Result<Option<At>, NoMemory>
-    ensures { IfOk result (λ found. Tells declared.now file.now → Stand file.now.sections bodies.now
+    ensures { IfOk result (λ found. RepresentsNames declared.now file.now → AreBodiesOf file.now.sections bodies.now
         → found ≡ first (faults file.now)) }
 {
     let written = first_fault(alloc, file, declared)?;
@@ -165,7 +165,7 @@ fn first_of_file(
 
 /// The fault of the first bad visibility.
 fn bad_visibility(bodies: &Bodies) -> Option<At>
-    ensures { (sections : List Section) → Stand sections bodies.now
+    ensures { (sections : List Section) → AreBodiesOf sections bodies.now
         → result ≡ first (map bad_visibility_at (flat_map bad_visibilities (with_imports_replaced sections))) }
 {
     match first_bad_visibility(bodies) {
@@ -185,11 +185,11 @@ fn faultless(
     declared: &Declared,
     bodies: &Bodies,
 ) -> Result<Description, Fault>
-    requires { All (λ section. StandInBranches section.parts) file.now.sections }
-    ensures description { IfOk result (λ d. Tells declared.now file.now → Stand file.now.sections bodies.now
-        → Comes file.now digest (own_name file.now.heads) (version_of file.now.heads) (Ok d)) }
-    ensures fault { IfErr result (RefusesAt (λ line cause. Tells declared.now file.now → Stand file.now.sections bodies.now
-        → Comes file.now digest (own_name file.now.heads) (version_of file.now.heads) (Err (is_at line cause)))) }
+    requires { All (λ section. AreSectionParts section.parts) file.now.sections }
+    ensures description { IfOk result (λ d. RepresentsNames declared.now file.now → AreBodiesOf file.now.sections bodies.now
+        → IsFaultlessOutcome file.now digest (own_name file.now.heads) (version_of file.now.heads) (Ok d)) }
+    ensures fault { IfErr result (RefusesAt (λ line cause. RepresentsNames declared.now file.now → AreBodiesOf file.now.sections bodies.now
+        → IsFaultlessOutcome file.now digest (own_name file.now.heads) (version_of file.now.heads) (Err (is_at line cause)))) }
 {
     let Some(name) = declared.name else {
         return Err(missing());
@@ -210,8 +210,8 @@ fn components_in(
     declared: &Declared,
     bodies: &Bodies,
 ) -> Result<List<Component>, NoMemory>
-    ensures { IfOk result (λ found. (file : File) → Tells declared.now file → Stand file.sections bodies.now
-        → All (λ section. StandInBranches section.parts) file.sections → found ≡ components file) }
+    ensures { IfOk result (λ found. (file : File) → RepresentsNames declared.now file → AreBodiesOf file.sections bodies.now
+        → All (λ section. AreSectionParts section.parts) file.sections → found ≡ components file) }
 {
     room(alloc, total_weight(bodies))?;
     let found = components(alloc, declared, bodies)?;

@@ -6,7 +6,7 @@ use Rattle.plan_types.specs.declared.refusal.Cause.{Cause}
 use Rattle.plan_types.specs.declared.refusal.TextFault.{TextFault}
 use Rattle.plan_types.specs.declared.refusal.TextFault.TheVariants.{NoMemory, Bad}
 use Rattle.plan_types.specs.Refusal.{Refuses}
-use Rattle.entry_text.specs.Entries.{depth_behind, left_open, commas_inside, Pieces, last, joined, entries, Each, none, more, First, here, later, Lists, Faulty}
+use Rattle.entry_text.specs.Entries.{depth_behind, left_open, commas_inside, Pieces, last, joined, entries, Each, none, more, First, here, later, HasEntries, HasFirstFault}
 use Rattle.common_laws.specs.Small.{tail_same, head_same}
 
 -- ---- the pieces of a text are unique
@@ -74,18 +74,18 @@ each_or_first Part Fault apart parts xs c (more {part = part} {x = x} p e) (here
 each_or_first Part Fault apart parts xs c (more {parts = rest} {xs = as'} p e) (later q f) = each_or_first Part Fault apart rest as' c e f
 
 pub one_reading : {A : Type 0} (Part : List ℕ → A → Type 0) → ((part : List ℕ) (x y : A) → Part part x → Part part y → x ≡ y)
-    → (text : List ℕ) (xs ys : List A) → Lists Part text xs → Lists Part text ys → xs ≡ ys
+    → (text : List ℕ) (xs ys : List A) → HasEntries Part text xs → HasEntries Part text ys → xs ≡ ys
 one_reading Part one text xs ys r s =
     one_each Part one (entries s.pieces) xs ys (subst (λ ps. Each Part (entries ps) xs) (one_cut text r.pieces s.pieces r.cut s.cut) r.each) s.each
 
 pub one_first : {A : Type 0} (Part : List ℕ → A → Type 0) (Fault : List ℕ → Cause → Type 0) → Settled Part Fault
-    → (text : List ℕ) (c d : Cause) → Faulty Part Fault text c → Faulty Part Fault text d → c ≡ d
+    → (text : List ℕ) (c d : Cause) → HasFirstFault Part Fault text c → HasFirstFault Part Fault text d → c ≡ d
 one_first Part Fault row text c d r s =
     first_of Part Fault row (entries s.pieces) c d (subst (λ ps. First Part Fault (entries ps) c) (one_cut text r.pieces s.pieces r.cut s.cut) r.first) s.first
 
 pub reading_or_fault : {A : Type 0} (Part : List ℕ → A → Type 0) (Fault : List ℕ → Cause → Type 0)
     → ((part : List ℕ) (x : A) (c : Cause) → Part part x → Fault part c → ⊥)
-    → (text : List ℕ) (xs : List A) (c : Cause) → Lists Part text xs → Faulty Part Fault text c → ⊥
+    → (text : List ℕ) (xs : List A) (c : Cause) → HasEntries Part text xs → HasFirstFault Part Fault text c → ⊥
 reading_or_fault Part Fault apart text xs c r s =
     each_or_first Part Fault apart (entries s.pieces) xs c (subst (λ ps. Each Part (entries ps) xs) (one_cut text r.pieces s.pieces r.cut s.cut) r.each) s.first
 

@@ -62,13 +62,13 @@ pub data First {A : Type 0} (Part : List ℕ → A → Type 0) (Fault : List ℕ
   later : {part : List ℕ} {x : A} {cause : Cause} {parts : List (List ℕ)} → Part part x → First Part Fault parts cause → First Part Fault (part ∷ parts) cause
 
 -- the values of all entries of a text
-pub record Lists {A : Type 0} (Entry : List ℕ → A → Type 0) (text : List ℕ) (found : List A) : Type 0 where
+pub record HasEntries {A : Type 0} (Entry : List ℕ → A → Type 0) (text : List ℕ) (found : List A) : Type 0 where
   pub pieces : List (List ℕ)
   pub cut : Pieces text pieces
   pub each : Each Entry (entries pieces) found
 
 -- the fault of a text: that of its first bad entry
-pub record Faulty {A : Type 0} (Entry : List ℕ → A → Type 0) (Fault : List ℕ → Cause → Type 0) (text : List ℕ) (cause : Cause) : Type 0 where
+pub record HasFirstFault {A : Type 0} (Entry : List ℕ → A → Type 0) (Fault : List ℕ → Cause → Type 0) (text : List ℕ) (cause : Cause) : Type 0 where
   pub pieces : List (List ℕ)
   pub cut : Pieces text pieces
   pub first : First Entry Fault (entries pieces) cause

@@ -2,7 +2,7 @@
 ghost use Rattle.std.specs.Prelude.{◌≡◌, ◌+◌, ◌≤◌, ◌==◌, ◌&&◌, ◌∷◌, ◌++◌, ◌<◌, [], ℕ, List, true, map, length, take, slice_index, IfOk, IfErr, IfSome, IfNone};
 ghost use Rattle.plan_types.specs.declared.refusal.Cause.{Cause};
 ghost use Rattle.plan_types.specs.Refusal.{Refuses};
-ghost use Rattle.entry_text.specs.Entries.{depth_behind, left_open, commas_inside, Pieces, without_first, without_last, without_lone, are_blanks, entries, Each, First, Lists, Faulty};
+ghost use Rattle.entry_text.specs.Entries.{depth_behind, left_open, commas_inside, Pieces, without_first, without_last, without_lone, are_blanks, entries, Each, First, HasEntries, HasFirstFault};
 
 use crate::name::is_blank;
 use plan_types::{List, NoMemory, TextFault};
@@ -24,8 +24,8 @@ pub trait Row {
 
 /// Reads the entries of a text.
 pub fn read_entries<R: Row>(alloc: Global, row: &R, text: &[u8]) -> Result<List<R::Item>, TextFault>
-    ensures found { IfOk result (Lists (R.stands row.now) text.now) }
-    ensures fault { IfErr result (Refuses (Faulty (R.stands row.now) (R.fails row.now) text.now)) }
+    ensures found { IfOk result (HasEntries (R.stands row.now) text.now) }
+    ensures fault { IfErr result (Refuses (HasFirstFault (R.stands row.now) (R.fails row.now) text.now)) }
 {
     let pieces = pieces(alloc, text)?;
     read_each(alloc, row, entries(pieces.as_slice()))

@@ -13,7 +13,7 @@ use Rattle.package_declarations.specs.Declarations.{own_name}
 use Rattle.package_declarations.specs.Flags.{AreFlags, declared_flags, name_before}
 use Rattle.package_declarations.proofs.FlagOrder.{name-order}
 use Rattle.package_declarations.proofs.StableSort.{put_all}
-use Rattle.description.specs.Description.{Comes, ComesTo, Describes, OfVersion, cabal_version, description, missing, unless_circular, version_of}
+use Rattle.description.specs.Description.{IsFaultlessOutcome, IsFileOutcome, Describes, OfVersion, cabal_version, description, missing, unless_circular, version_of}
 use Rattle.description.specs.FaultOrder.{first}
 use Rattle.description.specs.Faults.{faults}
 use Rattle.description.specs.declared.fault_order.At.{At}
@@ -28,7 +28,7 @@ some_flags sections =
       record { all = all_move name_before name-order declared; sorted = all_sorted name_before name-order declared; stable = all_stable name_before name-order declared },
     )
 
-comes : (file : File) (digest : List ℕ) (name : Option (List ℕ)) (version : Option Version) → (outcome : Result Description At) × Comes file digest name version outcome
+comes : (file : File) (digest : List ℕ) (name : Option (List ℕ)) (version : Option Version) → (outcome : Result Description At) × IsFaultlessOutcome file digest name version outcome
 comes file digest None version = (Err missing, refl)
 comes file digest (Some name) None = (Err missing, refl)
 comes file digest (Some name) (Some version) =
@@ -37,7 +37,7 @@ comes file digest (Some name) (Some version) =
     let circular = some_first (needs described.components) in
     (unless_circular circular.0 described, (described, record { flags = flags.1; is = refl }, circular.0, circular.1, refl))
 
-comes_to : (file : File) (digest : List ℕ) (fault : Option At) → (outcome : Result Description At) × ComesTo file digest fault outcome
+comes_to : (file : File) (digest : List ℕ) (fault : Option At) → (outcome : Result Description At) × IsFileOutcome file digest fault outcome
 comes_to file digest None = comes file digest (own_name file.heads) (version_of file.heads)
 comes_to file digest (Some at) = (Err at, refl)
 

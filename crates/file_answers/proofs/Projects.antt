@@ -9,10 +9,10 @@ use Rattle.plan_types.specs.declared.refusal.Refusal.{Refusal}
 use Rattle.text_grammar.specs.Outcome.{Read}
 use Rattle.cabal_lexer.specs.Tree.{Tree, end, field, section, tree_of}
 use Rattle.constraint_text.specs.Constraints.{ConstraintEntry, Constraints, ConstraintsFault}
-use Rattle.constraint_text.specs.Faults.{BadAsNone}
+use Rattle.constraint_text.specs.Faults.{IsBadConstraint}
 use Rattle.constraint_text.specs.Named.{NamedEntry, NamedRanges, NamedFault}
 use Rattle.constraint_text.specs.Relaxes.{Relaxes, RelaxFault}
-use Rattle.project_file.specs.Branches.{Decides, Settles, bare, branch_fault, chain_behind, decided_of, is_taken}
+use Rattle.project_file.specs.Branches.{Decides, HasValue, bare, branch_fault, chain_behind, decided_of, is_taken}
 use Rattle.project_file.specs.Fields.{FieldSays}
 use Rattle.project_file.specs.Parts.{IfTaken, IsBranch, Says, placed}
 use Rattle.project_file.specs.Project.{placed_all}
@@ -42,10 +42,10 @@ of_read f P read = (f read.0, (read.0, read.1, refl))
 
 named_read : (text : List ℕ) → Exists (Read (NamedRanges text) (NamedFault text))
 named_read text =
-    read_of (NamedRanges text) (NamedFault text) (some_reading NamedEntry (BadAsNone NamedEntry) (λ part. bad_as_none NamedEntry part (named_decided part)) text)
+    read_of (NamedRanges text) (NamedFault text) (some_reading NamedEntry (IsBadConstraint NamedEntry) (λ part. bad_as_none NamedEntry part (named_decided part)) text)
 
 constraints_read : (text : List ℕ) → Exists (Read (Constraints text) (ConstraintsFault text))
-constraints_read text = read_of (Constraints text) (ConstraintsFault text) (some_reading ConstraintEntry (BadAsNone ConstraintEntry) some_constraint text)
+constraints_read text = read_of (Constraints text) (ConstraintsFault text) (some_reading ConstraintEntry (IsBadConstraint ConstraintEntry) some_constraint text)
 
 relaxes_read : (text : List ℕ) → Exists (Read (Relaxes text) (RelaxFault text))
 relaxes_read text = read_of (Relaxes text) (RelaxFault text) (some_relaxes text)
@@ -72,7 +72,7 @@ field_says name text =
 module _ (env : Env) where
   -- ---- a branch
 
-  settled : (args : List ℕ) → Exists (Settles env args)
+  settled : (args : List ℕ) → Exists (HasValue env args)
   settled args = of_read (decided_of env) _ (condition_read V3_0 args)
 
   if_taken : (taken : Bool) (Within : _ → Type 0) → Exists Within → Exists (IfTaken taken Within)

@@ -4,7 +4,7 @@ use Rattle.plan_types.specs.declared.condition.Env.{Env}
 use Rattle.plan_types.specs.declared.description.Description.{Description}
 use Rattle.description.specs.FaultOrder.{is_at}
 use Rattle.description.specs.declared.fault_order.At.{At}
-use Rattle.flatten.specs.Demands.{first_beyond}
+use Rattle.flatten.specs.Demands.{first_with_too_many_paths}
 use Rattle.cabal_file.specs.Source.{IsSource, OfDescription, digest_of, source_of, unless_beyond}
 use Rattle.cabal_file.specs.declared.source.Source.{Source}
 use Rattle.file_answers.proofs.Descriptions.{some_description}
@@ -12,7 +12,7 @@ use Rattle.file_answers.proofs.Trees.{some_tree}
 
 of_description : (env : Env) (described : Result Description At) → (outcome : Result Source At) × OfDescription env described outcome
 of_description env (Err at) = (Err at, refl)
-of_description env (Ok d) = (unless_beyond (first_beyond env d) (source_of env d), refl)
+of_description env (Ok d) = (unless_beyond (first_with_too_many_paths env d) (source_of env d), refl)
 
 pub some_source : (env : Env) (bytes : List ℕ) → (outcome : Result Source At) × IsSource env bytes outcome
 some_source env bytes =

@@ -9,17 +9,17 @@ use Rattle.std.specs.Cmp.{second_so}
 use Rattle.plan_types.specs.declared.dependency.Dep.{Dep}
 use Rattle.plan_types.specs.declared.description.CompKind.{CompKind}
 use Rattle.plan_types.specs.declared.index.FlatDep.{FlatDep}
-use Rattle.conditionals.specs.Paths.{Path, says, holds}
+use Rattle.conditionals.specs.Paths.{Path, has_setting, holds}
 use Rattle.flatten.specs.Counting.{Parts, flags_of, are_met}
 use Rattle.flatten.specs.Demands.{stanza_of, literal_of, flat_of}
 
 path_is_met : (parts : Parts) (path : Path) → are_met parts (map literal_of path) ≡ holds (flags_of parts) path
 path_is_met parts [] = refl
-path_is_met parts (s ∷ path) = ap (λ b. says (flags_of parts s.name) s.on && b) (path_is_met parts path)
+path_is_met parts (s ∷ path) = ap (λ b. has_setting (flags_of parts s.name) s.on && b) (path_is_met parts path)
 
 pub is_met : (parts : Parts) (kind : CompKind) (dep : Dep) (path : Path) → are_met parts (flat_of kind dep path).when ≡ (are_met parts (stanza_of kind) && holds (flags_of parts) path)
 is_met parts kind dep path =
-    list_all-append (λ literal. says (parts literal.part) literal.on) (stanza_of kind) (map literal_of path)
+    list_all-append (λ literal. has_setting (parts literal.part) literal.on) (stanza_of kind) (map literal_of path)
     ∙ ap (λ b. are_met parts (stanza_of kind) && b) (path_is_met parts path)
 
 pub any_is_met : (parts : Parts) (kind : CompKind) (dep : Dep) (paths : List Path) → list_any (λ flat. are_met parts flat.when) (map (flat_of kind dep) paths) ≡ (are_met parts (stanza_of kind) && list_any (holds (flags_of parts)) paths)

@@ -12,7 +12,7 @@ use Rattle.plan_types.specs.declared.description.Component.{Component}
 use Rattle.plan_types.specs.Guarded.{GuardedDep}
 use Rattle.flatten.proofs.FirstBeyond.{none_among}
 use Rattle.flatten.proofs.JoinedPaths.{filter_none}
-use Rattle.flatten.specs.Demands.{Outward, external, first_among, is_beyond, outward_among, outward_of}
+use Rattle.flatten.specs.Demands.{ExternalDep, external, first_among, has_too_many_paths, outward_among, outward_of}
 
 abbrev pub is-other : GuardedDep → Bool
 is-other guarded = not guarded.dep.internal
@@ -40,12 +40,12 @@ module _ (component : Component) (when : Cond) (dep : Dep) (rest : List Dep) whe
   passed is = ap (λ b. map (outward_of component) (cond (not b) (in-place dep ∷ external (map in-place rest)) (external (map in-place rest)))) is
 
 -- if the first hasn't too many paths, the rest decides
-pub not-first : (env : Env) (at : Outward) (rest : List Outward) → is_beyond env at ≡ false → first_among env (at ∷ rest) ≡ first_among env rest
+pub not-first : (env : Env) (at : ExternalDep) (rest : List ExternalDep) → has_too_many_paths env at ≡ false → first_among env (at ∷ rest) ≡ first_among env rest
 not-first env at rest is = none_among env (at ∷ []) rest (ap (λ b. option_map (λ at. at.guarded.dep.line) (cond b (Some at) None)) is)
 
 -- if the first has too many, its line is the answer
-pub is-first : (env : Env) (at : Outward) (rest : List Outward) → is_beyond env at ≡ true → first_among env (at ∷ rest) ≡ Some at.guarded.dep.line
-is-first env at rest is = ap (λ b. option_map (λ at. at.guarded.dep.line) (cond b (Some at) (find (is_beyond env) rest))) is
+pub is-first : (env : Env) (at : ExternalDep) (rest : List ExternalDep) → has_too_many_paths env at ≡ true → first_among env (at ∷ rest) ≡ Some at.guarded.dep.line
+is-first env at rest is = ap (λ b. option_map (λ at. at.guarded.dep.line) (cond b (Some at) (find (has_too_many_paths env) rest))) is
 
 -- a group without dependencies on other packages has no demands
 pub none-other : (component : Component) (when : Cond) (deps : List Dep) → list_any (λ dep. not dep.internal) deps ≡ false → outward_among component (map (λ dep. record { when = when; dep = dep }) deps) ≡ []

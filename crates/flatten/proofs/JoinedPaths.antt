@@ -12,7 +12,7 @@ use Rattle.conditionals.specs.Paths.{Path, paths_of, followed, clean_paths}
 use Rattle.conditionals.proofs.Joining.{cleaned_before_joined}
 use Rattle.common_laws.specs.Small.{capped}
 use Rattle.conditionals.proofs.Counting.{capped_product, length_followed}
-use Rattle.flatten.specs.Demands.{Outward, outward_of, outward_in, paths_at, demands_at, flat_of, is_beyond, first_among}
+use Rattle.flatten.specs.Demands.{ExternalDep, outward_of, outward_in, paths_at, demands_at, flat_of, has_too_many_paths, first_among}
 use Rattle.flatten.specs.Ways.{few_paths, number_of_both, paths_of_both, ways_of}
 use Rattle.flatten.specs.declared.ways.Ways.{Ways}
 
@@ -84,7 +84,7 @@ not-zero : (n : ℕ) → nat_eq (suc n) 0 ≡ false
 not-zero n = grind arith
 
 module _ (env : Env) (component : Component) (guarded : GuardedDep) where
-  abbrev at : Outward
+  abbrev at : ExternalDep
   at = outward_of component guarded
 
   abbrev first : List Path
@@ -103,10 +103,10 @@ module _ (env : Env) (component : Component) (guarded : GuardedDep) where
   number_is known own is = is ∙ (λ i. capped ((known i).number * (own i).number)) ∙ capped_product (length first) (length second) ∙ ap capped (sym size_is)
 
   module _ {number : ℕ} (is : number ≡ capped (length (paths_at env at))) where
-    pub beyond : 256 < number → is_beyond env at ≡ true
+    pub beyond : 256 < number → has_too_many_paths env at ≡ true
     beyond more = lt-ltb 256 (length (paths_at env at)) (many number (length (paths_at env at)) is more)
 
-    pub within : number ≤ 256 → is_beyond env at ≡ false
+    pub within : number ≤ 256 → has_too_many_paths env at ≡ false
     within less = le-ltb 256 (length (paths_at env at)) (few number (length (paths_at env at)) is less)
 
     pub no_demands : number ≡ 0 → (flat : List FlatDep) → flat ≡ flat ++ demands_at env at
@@ -124,10 +124,10 @@ module _ (env : Env) (component : Component) (guarded : GuardedDep) where
         ∙ cleaned_before_joined first second
         ∙ ap clean_paths (sym paths_are)
 
-  pub within-both : {ways met : Ways} → ways ≡ ways_of env component.buildable → met ≡ ways_of env guarded.when → number_of_both ways met ≤ 256 → is_beyond env at ≡ false
+  pub within-both : {ways met : Ways} → ways ≡ ways_of env component.buildable → met ≡ ways_of env guarded.when → number_of_both ways met ≤ 256 → has_too_many_paths env at ≡ false
   within-both known own less = within (number_is known own refl) less
 
-  pub beyond-both : {ways met : Ways} → ways ≡ ways_of env component.buildable → met ≡ ways_of env guarded.when → 256 < number_of_both ways met → is_beyond env at ≡ true
+  pub beyond-both : {ways met : Ways} → ways ≡ ways_of env component.buildable → met ≡ ways_of env guarded.when → 256 < number_of_both ways met → has_too_many_paths env at ≡ true
   beyond-both known own more = beyond (number_is known own refl) more
 
   pub asked-both : {ways met : Ways} → ways ≡ ways_of env component.buildable → met ≡ ways_of env guarded.when → number_of_both ways met ≤ 256

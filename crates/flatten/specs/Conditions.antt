@@ -18,5 +18,5 @@ asks_step is_declared (And left right) = left && right
 asks_step is_declared (Or left right) = left && right
 
 -- each flag of the condition is declared, and each version in it can be written
-abbrev pub asks_well : (List ℕ → Bool) → Cond → Bool
-asks_well is_declared = fold-Cond Bool (asks_step is_declared)
+abbrev pub is_well_formed : (List ℕ → Bool) → Cond → Bool
+is_well_formed is_declared = fold-Cond Bool (asks_step is_declared)

@@ -5,7 +5,7 @@ use Rattle.plan_types.specs.declared.index.Literal.{Literal}
 use Rattle.plan_types.specs.declared.index.PartName.{PartName}
 use Rattle.plan_types.specs.declared.index.PartName.TheVariants.{Flag}
 use Rattle.conditionals.specs.Value.{Flags}
-use Rattle.conditionals.specs.Paths.{says}
+use Rattle.conditionals.specs.Paths.{has_setting}
 
 -- flags and stanzas with their values, as far as they are known
 abbrev pub Parts : Type 0
@@ -17,4 +17,4 @@ flags_of parts name = parts (Flag name)
 
 -- all literals have their values
 abbrev pub are_met : Parts → List Literal → Bool
-are_met parts = list_all (λ literal. says (parts literal.part) literal.on)
+are_met parts = list_all (λ literal. has_setting (parts literal.part) literal.on)

@@ -16,12 +16,12 @@ use Rattle.conditionals.specs.Paths.{Path, paths_of, clean_paths}
 use Rattle.flatten.specs.WholeCondition.{whole_condition}
 
 -- a dependency on another package, with its component
-pub record Outward : Type 0 where
+pub record ExternalDep : Type 0 where
   pub component : Component
   pub guarded : GuardedDep
 
 -- such a dependency of a component
-abbrev pub outward_of : Component → GuardedDep → Outward
+abbrev pub outward_of : Component → GuardedDep → ExternalDep
 outward_of component guarded = record { component = component; guarded = guarded }
 
 -- the dependencies that aren't internal
@@ -29,19 +29,19 @@ abbrev pub external : List GuardedDep → List GuardedDep
 external = filter (λ guarded. not guarded.dep.internal)
 
 -- those of these dependencies that are on other packages, with their component
-abbrev pub outward_among : Component → List GuardedDep → List Outward
+abbrev pub outward_among : Component → List GuardedDep → List ExternalDep
 outward_among component deps = map (outward_of component) (external deps)
 
 -- all dependencies of a component on other packages
-abbrev pub outward_in : Component → List Outward
+abbrev pub outward_in : Component → List ExternalDep
 outward_in component = outward_among component component.deps
 
 -- all dependencies on other packages, in file order of the components
-abbrev pub outward : Description → List Outward
+abbrev pub outward : Description → List ExternalDep
 outward d = flat_map outward_in d.components
 
 -- all paths under which a dependency counts, contradictory ones too
-abbrev pub paths_at : Env → Outward → List Path
+abbrev pub paths_at : Env → ExternalDep → List Path
 paths_at env at = paths_of env (whole_condition at.component at.guarded) true
 
 -- the stanza that has to be on for a component of this kind to be built
@@ -61,7 +61,7 @@ abbrev pub flat_of : CompKind → Dep → Path → FlatDep
 flat_of kind dep path = record { when = stanza_of kind ++ map literal_of path; dep = dep }
 
 -- the demands of a dependency, one for each path that isn't contradictory
-abbrev pub demands_at : Env → Outward → List FlatDep
+abbrev pub demands_at : Env → ExternalDep → List FlatDep
 demands_at env at = map (flat_of at.component.kind at.guarded.dep) (clean_paths (paths_at env at))
 
 -- the demands of a description
@@ -69,13 +69,13 @@ abbrev pub demands_of : Env → Description → List FlatDep
 demands_of env d = flat_map (demands_at env) (outward d)
 
 -- whether a dependency has more than 256 paths
-abbrev pub is_beyond : Env → Outward → Bool
-is_beyond env at = nat_lt 256 (length (paths_at env at))
+abbrev pub has_too_many_paths : Env → ExternalDep → Bool
+has_too_many_paths env at = nat_lt 256 (length (paths_at env at))
 
 -- the line of the first dependency with too many paths
-abbrev pub first_among : Env → List Outward → Option ℕ
-first_among env all = option_map (λ at. at.guarded.dep.line) (find (is_beyond env) all)
+abbrev pub first_among : Env → List ExternalDep → Option ℕ
+first_among env all = option_map (λ at. at.guarded.dep.line) (find (has_too_many_paths env) all)
 
 -- the line of the first dependency of a description with too many paths
-abbrev pub first_beyond : Env → Description → Option ℕ
-first_beyond env d = first_among env (outward d)
+abbrev pub first_with_too_many_paths : Env → Description → Option ℕ
+first_with_too_many_paths env d = first_among env (outward d)

@@ -24,8 +24,8 @@ use Rattle.plan_types.specs.declared.index.Package.{Package}
 use Rattle.plan_types.specs.Members.{order}
 use Rattle.plan_types.specs.Name.{is_package_name, is_flag_name, is_lower}
 use Rattle.version_range.specs.Version.{is_version, has_versions}
-use Rattle.flatten.specs.Conditions.{asks_well}
-use Rattle.flatten.specs.Demands.{outward, demands_of, first_beyond}
+use Rattle.flatten.specs.Conditions.{is_well_formed}
+use Rattle.flatten.specs.Demands.{outward, demands_of, first_with_too_many_paths}
 use Rattle.flatten.specs.Exposure.{exposed}
 use Rattle.qualified_goals.specs.Names.{AreInGoalOrder}
 use Rattle.flatten.specs.OwnComponents.{finds_all, HasNoCycle}
@@ -73,7 +73,7 @@ pub record IsDescription (d : Description) : Type 0 where
   pub libraries_apart : list_all (λ component. not (is_library component.kind && same_text component.name d.name)) d.components ≡ true
   pub component_kinds : list_all (λ dep. is_of_components dep.kind) (component_deps d) ≡ true
   pub setup_kinds : list_all (λ dep. is_of_setup dep.kind && not dep.internal) d.setup ≡ true
-  pub conditions_ask_well : list_all (asks_well (declares_flag d)) (conditions d) ≡ true
+  pub conditions_ask_well : list_all (is_well_formed (declares_flag d)) (conditions d) ≡ true
   pub ranges_have_versions : list_all (λ dep. has_versions dep.range) (component_deps d ++ d.setup) ≡ true
   pub own_components : list_all (is_own d) (component_deps d) ≡ true
   pub no_cycle : HasNoCycle d.components
@@ -109,7 +109,7 @@ has_units index (id ∷ ids) (name ∷ names) = has_unit index id name && has_un
 pub record IsSource (env : Env) (index : Index) (d : Description) (flat : List FlatDep) (offer : Exposed) : Type 0 where
   pub description : IsDescription d
   pub packages : list_all (has_package index) (asked_packages d) ≡ true
-  pub none_beyond : first_beyond env d ≡ None
+  pub none_beyond : first_with_too_many_paths env d ≡ None
   pub demands : flat ≡ demands_of env d
   pub offers : offer ≡ exposed env d
 

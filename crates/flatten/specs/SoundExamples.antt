@@ -22,8 +22,8 @@ use Rattle.plan_types.specs.declared.range.Range.TheVariants.{Any, rolls-Any}
 use Rattle.plan_types.specs.declared.range.Spec.TheVariants.{V3_0}
 use Rattle.version_range.specs.Version.{has_versions, versions_step}
 use Rattle.conditionals.specs.Layers.{paths-Flag, paths-And}
-use Rattle.flatten.specs.Conditions.{asks_step, asks_well}
-use Rattle.flatten.specs.Demands.{demands_of, first_beyond}
+use Rattle.flatten.specs.Conditions.{asks_step, is_well_formed}
+use Rattle.flatten.specs.Demands.{demands_of, first_with_too_many_paths}
 use Rattle.flatten.specs.Examples.{linux, a, on, component, under}
 use Rattle.flatten.specs.Exposure.{exposed}
 use Rattle.flatten.specs.OwnComponents.{Leads, at_once, by_way_of, needs}
@@ -66,8 +66,8 @@ both = record { packages = of_base ∷ of_main ∷ []; skipped = []; warnings = 
 
 -- ---- it is sound
 
-asks-Flag : (is_declared : List ℕ → Bool) (name : List ℕ) → asks_well is_declared (Flag name) ≡ is_declared name
-asks-Flag is_declared name = ap (asks_well is_declared) (sym (rolls-Flag name)) ∙ fold-roll-Cond Bool (asks_step is_declared) (layer.Flag name)
+asks-Flag : (is_declared : List ℕ → Bool) (name : List ℕ) → is_well_formed is_declared (Flag name) ≡ is_declared name
+asks-Flag is_declared name = ap (is_well_formed is_declared) (sym (rolls-Flag name)) ∙ fold-roll-Cond Bool (asks_step is_declared) (layer.Flag name)
 
 any_has_versions : has_versions Any ≡ true
 any_has_versions = ap has_versions (sym rolls-Any) ∙ fold-roll-Range Bool versions_step range_layer.Any
@@ -99,7 +99,7 @@ main_is_well = record {
   no_cycle = λ c there way. leads_nowhere c c there way;
 }
 
-within : first_beyond linux main ≡ None
+within : first_with_too_many_paths linux main ≡ None
 within = simp by_kind refl
 
 base_is_well : IsPackage linux both of_base

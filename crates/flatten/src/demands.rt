@@ -4,7 +4,7 @@ ghost use Rattle.std.specs.Prelude.{◌≡◌, ◌++◌, [], ◌∷◌, true, fa
 ghost use Rattle.std.specs.List.{list_any};
 ghost use Rattle.plan_types.specs.Refusal.{RefusesAt};
 ghost use Rattle.plan_types.specs.declared.refusal.Cause.TheVariants.{TooManyPaths};
-ghost use Rattle.flatten.specs.Demands.{demands_of, demands_at, first_beyond, outward_among, outward_in, first_among, stanza_of, flat_of, literal_of};
+ghost use Rattle.flatten.specs.Demands.{demands_of, demands_at, first_with_too_many_paths, outward_among, outward_in, first_among, stanza_of, flat_of, literal_of};
 ghost use Rattle.flatten.specs.Ways.{number_of_both, paths_of_both, ways_of};
 ghost use Rattle.plan_types.specs.Guarded.{of_group};
 ghost use Rattle.condition_outlook.specs.Outlook.{IsOutlookAt};
@@ -21,10 +21,10 @@ use std::alloc::Global;
 /// One demand for each path of each dependency on another package, in file order. The first dependency with more than
 /// 256 paths is refused, at its line.
 pub fn demands_of(alloc: Global, d: &Description, env: &Env) -> Result<List<FlatDep>, Fault>
-    ensures demands { IfOk result (λ flat. (first_beyond env.now d.now ≡ None)
+    ensures demands { IfOk result (λ flat. (first_with_too_many_paths env.now d.now ≡ None)
         × (flat ≡ demands_of env.now d.now)) }
     ensures refused { IfErr result (RefusesAt (λ line cause. (cause ≡ TooManyPaths)
-        × (first_beyond env.now d.now ≡ Some line))) }
+        × (first_with_too_many_paths env.now d.now ≡ Some line))) }
 {
     let mut flat = List::new(alloc);
     for component in d.components.as_slice() {

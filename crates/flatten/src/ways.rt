@@ -29,8 +29,11 @@ pub fn ways_of(
     requires { IsOutlookAt env.now cond.now outlooks.now place }
     ensures { IfOk result (λ ways. ways ≡ ways_of env.now cond.now) }
 {
-    let Outlook { number, never } = outlooks[place];
-    if number == 0 || MOST_PATHS < number || never {
+    let Outlook {
+        number,
+        known_impossible,
+    } = outlooks[place];
+    if number == 0 || MOST_PATHS < number || known_impossible {
         return Ok(Ways {
             number,
             paths: List::new(alloc),

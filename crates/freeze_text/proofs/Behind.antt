@@ -21,7 +21,7 @@ use Rattle.version_range.specs.Grammar as grammar
 use Rattle.entry_text.specs.Entries.{Each}
 use Rattle.entry_text.specs.Entries as entries
 use Rattle.entry_text.specs.Words.{is_word, words}
-use Rattle.constraint_text.specs.Constraints.{Flag, Asked, Asks}
+use Rattle.constraint_text.specs.Constraints.{Flag, Required, Requires}
 use Rattle.constraint_text.specs.Constraints as constraints
 use Rattle.common_laws.specs.Passing.{all-less}
 use Rattle.common_laws.specs.Small.{same-is}
@@ -114,9 +114,9 @@ not-flags set sets h word = by sets h (off-name word)
     by (next ∷ rest) k is = let none = is.1 in absurd (cc none)
 
 word-asks : (text : List ℕ) (b : ℕ) (word : List ℕ) (w : What) → list_all is_plain_byte text ≡ true → words text ≡ (b ∷ word) ∷ [] → is_operator b ≡ false
-    → (IsRangeWord ((b ∷ word) ∷ []) → ⊥) → Asked ((b ∷ word) ∷ []) w → Asks text w
+    → (IsRangeWord ((b ∷ word) ∷ []) → ⊥) → Required ((b ∷ word) ∷ []) w → Requires text w
 word-asks text b word w bytes e other never asked =
-    constraints.other (λ r is. never (subst IsRangeWord e (only-word text b word [] e other bytes r is))) (subst (λ l. Asked l w) (sym e) asked)
+    constraints.other (λ r is. never (subst IsRangeWord e (only-word text b word [] e other bytes r is))) (subst (λ l. Required l w) (sym e) asked)
 
 no-range-word : (word : List ℕ) → (IsRangeWord ((105 ∷ word) ∷ []) → ⊥) × (IsRangeWord ((115 ∷ word) ∷ []) → ⊥)
 no-range-word word = (λ h. elim h [ inl e ↦ apart 105 45 word (codes "any") e refl | inr e ↦ apart 105 45 word (codes "none") e refl ], λ h. elim h [ inl e ↦ apart 115 45 word (codes "any") e refl | inr e ↦ apart 115 45 word (codes "none") e refl ])
@@ -124,7 +124,7 @@ no-range-word word = (λ h. elim h [ inl e ↦ apart 105 45 word (codes "any") e
     apart : (a b : ℕ) (xs ys : List ℕ) → (a ∷ xs) ∷ [] ≡ (b ∷ ys) ∷ [] → nat_eq a b ≡ false → ⊥
     apart a b xs ys e h = let same : a ≡ b = cc in false≢true (sym h ∙ eq-eqb a b same)
 
-pub what-asks : (w : What) → IsPlain w → Asks (what_text w) w
+pub what-asks : (w : What) → IsPlain w → Requires (what_text w) w
 what-asks _ (plain.version v h) = constraints.range (Equal v) (equal-stands v h) refl
 what-asks _ plain.installed = word-asks (codes " installed") 105 (codes "nstalled") what.Installed refl refl refl (no-range-word (codes "nstalled")).0 (constraints.alone refl)
 what-asks _ plain.source = word-asks (codes " source") 115 (codes "ource") what.Source refl refl refl (no-range-word (codes "ource")).1 (constraints.alone refl)

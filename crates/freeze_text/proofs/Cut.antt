@@ -7,7 +7,7 @@ use Rattle.std.proofs.lemmas.Bool.Decides.{nat_tests}
 use Rattle.std.proofs.lemmas.List.Folds.{list_all-append}
 use Rattle.plan_types.specs.Bytes.{joined_text}
 use Rattle.plan_types.specs.declared.constraint.Constraint.{Constraint}
-use Rattle.entry_text.specs.Entries.{Each, Pieces, Lists, are_blanks, commas_inside, depth_behind, entries, joined, left_open, without_first, without_last, without_lone}
+use Rattle.entry_text.specs.Entries.{Each, Pieces, HasEntries, are_blanks, commas_inside, depth_behind, entries, joined, left_open, without_first, without_last, without_lone}
 use Rattle.entry_text.specs.Entries as entry
 use Rattle.constraint_text.specs.Constraints.{ConstraintEntry, Constraints}
 use Rattle.freeze_text.specs.Reads.{IsPlainConstraint}

@@ -32,7 +32,7 @@ use Rattle.choice_problem.specs.Problem.{IsChoice}
 use Rattle.choice_problem.specs.Trail.{choice_of, value_in}
 use Rattle.choice_problem.specs.Twins.{are_twins}
 use Rattle.choice_problem.specs.Valid.{IsWholeValid}
-use Rattle.constraint_set.specs.Bars.{holds, is_number}
+use Rattle.constraint_set.specs.Bars.{covers, is_number}
 use Rattle.constraint_set.specs.Relaxed.{is_version}
 use Rattle.solver_index.specs.Places.{entry_at, flag_number}
 use Rattle.cabal_problem.specs.Laws.{known-below}
@@ -63,15 +63,15 @@ module _ (env : Env) (index : Index) (project : Project) (names : NameTable) (or
   A = value_in trail
 
   pub choice-is : (q : Qual) (p i : ℕ) → A (package_var q p) ≡ Some i → IsChoice whole (choice_of (package_var q p) i)
-  choice-is q p i chosen = valid.holds.assignment.choice (choice_of (package_var q p) i) chosen
+  choice-is q p i chosen = valid.covers.assignment.choice (choice_of (package_var q p) i) chosen
 
   -- the instance under a qualifier in scope is alike
-  only-top : (q : Qual) → holds names scope.Top q ≡ true → q ≡ Top
+  only-top : (q : Qual) → covers names scope.Top q ≡ true → q ≡ Top
   only-top Top h = refl
   only-top (Setup p) h = absurd (false≢true h)
   only-top (Exe p t) h = absurd (false≢true h)
 
-  only-setup : (s : ℕ) → s < length packages → (q : Qual) → holds names (scope.SetupOf (package_at packages s).name) q ≡ true → q ≡ Setup s
+  only-setup : (s : ℕ) → s < length packages → (q : Qual) → covers names (scope.SetupOf (package_at packages s).name) q ≡ true → q ≡ Setup s
   only-setup s within Top h = absurd (false≢true h)
   only-setup s within (Setup p) h =
       ap Setup (sym (eqb-true s p (sym (ap (λ o. is_number o p) (package-number packages names sound.in_goal_order numbers s within)) ∙ h)))
@@ -87,7 +87,7 @@ module _ (env : Env) (index : Index) (project : Project) (names : NameTable) (or
   one-choice p i j q r same first second = same_Some i j (sym first ∙ ap (λ x. A (package_var x p)) same ∙ second)
 
   pub alike-in-scope : (q : Qual) (p i : ℕ) → A (package_var q p) ≡ Some i → (at : Scope) → Reaches packages trail q p i at
-      → (r : Qual) (j : ℕ) → holds names at r ≡ true → A (package_var r p) ≡ Some j → AreAlikeAt p i j
+      → (r : Qual) (j : ℕ) → covers names at r ≡ true → A (package_var r p) ≡ Some j → AreAlikeAt p i j
   alike-in-scope q p i chosen at (local is) r j in_scope other =
       let below = known-below packages names (package_var q p) (choice-is q p i chosen).variable in
       let one = ((package-sound env index sound p below).local_is_one is).one in
@@ -120,19 +120,19 @@ module _ (env : Env) (index : Index) (project : Project) (names : NameTable) (or
       let d = choice_of (package_var r p) i in
       let v = part_beside c (Flag (flag_number names decl.name)) in
       let w = part_beside d (Flag (flag_number names decl.name)) in
-      let asked = flag-asked env packages project names orders numbers A valid.holds q p i chosen decl declared in
-      let asked_too = flag-asked env packages project names orders numbers A valid.holds r p i other decl declared in
+      let asked = flag-asked env packages project names orders numbers A valid.covers q p i chosen decl declared in
+      let asked_too = flag-asked env packages project names orders numbers A valid.covers r p i other decl declared in
       elim (same_var c.var d.var) as (λ b. same_var c.var d.var ≡ b → A v ≡ A w) [
         | true ↦ λ e. ap (λ (x : Var). A (flag_var x.qual p (flag_number names decl.name))) (same_var-is c.var d.var e)
         | false ↦ λ e.
             let apart = and_from (not (same_var c.var d.var)) (nat_eq i i) (ap not e) (eq-eqb i i refl) in
             let twins = and_from (same_var d.var d.var) (not (same_var c.var d.var) && nat_eq i i) (same_var-refl d.var) apart in
             let ask = and_from (same_var v v) (same_var w w) (same_var-refl v) (same_var-refl w) in
-            valid.holds.agree (request_of (flag_demand project names c decl)) (request_of (flag_demand project names d decl)) asked asked_too
+            valid.covers.agree (request_of (flag_demand project names c decl)) (request_of (flag_demand project names d decl)) asked asked_too
             (and_from (are_twins c d) (same_var v v && same_var w w) twins ask)
       ] refl
 
-  pub flag-kept : (q : Qual) (p i : ℕ) → A (package_var q p) ≡ Some i → (at : Scope) → Reaches packages trail q p i at → (r : Qual) (f n : ℕ) → holds names at r ≡ true
+  pub flag-kept : (q : Qual) (p i : ℕ) → A (package_var q p) ≡ Some i → (at : Scope) → Reaches packages trail q p i at → (r : Qual) (f n : ℕ) → covers names at r ≡ true
       → A (flag_var r p f) ≡ Some n → (decl : FlagDecl) → Contains (declared_by (entry_at (entries_of packages p) i).body) decl → number_of names.flags decl.name ≡ Some f
       → is_turned_on (A (flag_var q p f)) ≡ is_on n
   flag-kept q p i chosen at reaches r f n in_scope is decl declared numbered =

@@ -39,7 +39,7 @@ use Rattle.cabal_problem.specs.Laws.{known-below, known-qual}
 use Rattle.cabal_problem.specs.ListedDemands.{extra_root, flag_demand, has_stanzas, local_root, local_roots, roots_of, stanza_demand, stanza_if, unit_demand, unit_demands}
 use Rattle.cabal_problem.specs.Values.{package_var}
 use Rattle.cabal_problem.specs.Variables.{declares, has_kind, is_benchmark, is_qual, is_suite}
-use Rattle.cabal_problem.specs.WholeDemands.{body_requests, can_ask, front_demands, part_requests, requests_of, setup_request, setup_requests, whole_problem, whole_request}
+use Rattle.cabal_problem.specs.WholeDemands.{body_requests, has_stanza_variable, front_demands, part_requests, requests_of, setup_request, setup_requests, whole_problem, whole_request}
 use Rattle.frozen_choices.proofs.Numbers.{declared-number}
 
 -- ---- what opens a variable
@@ -165,7 +165,7 @@ module _ (env : Env) (packages : List Package) (project : Project) (names : Name
       → is_flag_part r.target.part ≡ true → AsksFlag project names owner body r
   body-asks owner allows (Source d flats offer) r h on_flag =
       let front = requests_of (front_demands packages project names owner d) in
-      let asked = filter (can_ask (has_stanzas packages owner.var)) (outward d) in
+      let asked = filter (has_stanza_variable (has_stanzas packages owner.var)) (outward d) in
       let deps = map (whole_request env packages names owner allows) asked in
       let scripts = setup_requests d.custom (map (setup_request packages names owner allows) d.setup) in
       elim (contains-append (front ++ deps) scripts r h) [
@@ -201,7 +201,7 @@ module _ (env : Env) (packages : List Package) (project : Project) (names : Name
       let benches = stanza_if (has && has_kind is_benchmark d) owner Benches in
       let front = front_demands packages project names owner d in
       let there : Contains front one = contains-left (flags ++ tests) benches one (contains-left flags tests one (map-contains (flag_demand project names owner) d.flags decl h)) in
-      let deps = map (whole_request env packages names owner allows) (filter (can_ask (has_stanzas packages owner.var)) (outward d)) in
+      let deps = map (whole_request env packages names owner allows) (filter (has_stanza_variable (has_stanzas packages owner.var)) (outward d)) in
       let scripts = setup_requests d.custom (map (setup_request packages names owner allows) d.setup) in
       contains-left (requests_of front ++ deps) scripts (request_of one) (contains-left (requests_of front) deps (request_of one) (map-contains request_of front one there))
   declared-among owner allows (Installed unit needs) decl h = absurd (contains-none decl h)

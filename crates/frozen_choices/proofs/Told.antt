@@ -26,7 +26,7 @@ use Rattle.qualified_goals.specs.declared.variable.Part.TheVariants.{Flag, Tests
 use Rattle.qualified_goals.specs.Names.{Name, NameTable, number_of}
 use Rattle.choice_problem.specs.declared.problem.Choice.{Choice}
 use Rattle.choice_problem.specs.Trail.{value_in}
-use Rattle.constraint_set.specs.Bars.{asks, excludes, flag_values, is_number, is_unit, is_value}
+use Rattle.constraint_set.specs.Bars.{requires_value, excludes, flag_values, is_number, is_unit, is_value}
 use Rattle.constraint_set.specs.Relaxed.{is_version}
 use Rattle.cabal_problem.specs.ListedDemands.{part_beside}
 use Rattle.frozen_choices.specs.Frozen.{are_alike, entry_of, is_turned_on, kind_of}
@@ -50,9 +50,9 @@ members-equal : (v w : Version) → members (Equal v) w ≡ is_eq (order w.parts
 members-equal v w = ap (λ r. members r w) (sym (rolls-Equal v)) ∙ ap (λ f. f w) (fold-roll-Range (Version → Bool) members_step (layer.Equal v))
 
 -- `installed` and `source` ask nothing of a part
-kind-asks : (names : NameTable) (e : Entry) (part : Part) (on : Bool) → asks names (kind_of e) part on ≡ false
-kind-asks names e part on =
-    elim (is_installed e.body) as (λ b. asks names (if b then what.Installed else what.Source) part on ≡ false) [ true ↦ refl | false ↦ refl ]
+kind-requires_value : (names : NameTable) (e : Entry) (part : Part) (on : Bool) → requires_value names (kind_of e) part on ≡ false
+kind-requires_value names e part on =
+    elim (is_installed e.body) as (λ b. requires_value names (if b then what.Installed else what.Source) part on ≡ false) [ true ↦ refl | false ↦ refl ]
 
 -- ---- what one constraint leaves alone
 
@@ -103,9 +103,9 @@ module _ (packages : List Package) (names : NameTable) (trail : List Choice) (at
   pub not-asked : (k : Constraint) → Tells packages names trail at name d k → (f : ℕ) (on : Bool)
       → ((decl : FlagDecl) → Contains (declared_by (entry_of packages d).body) decl → number_of names.flags decl.name ≡ Some f
       → is_turned_on (value_in trail (part_beside d (Flag f))) ≡ on)
-      → asks names k.what (Flag f) (not on) ≡ false
+      → requires_value names k.what (Flag f) (not on) ≡ false
   not-asked k version f on each = refl
-  not-asked k kind f on each = kind-asks names (entry_of packages d) (Flag f) (not on)
+  not-asked k kind f on each = kind-requires_value names (entry_of packages d) (Flag f) (not on)
   not-asked k (flags sets beside) f on each =
       none-other f on sets (λ s h numbered.
       let found = beside.each s h in
@@ -116,12 +116,12 @@ module _ (packages : List Package) (names : NameTable) (trail : List Choice) (at
       ∙ each decl found.1 named)
 
   -- it asks nothing of stanzas
-  pub no-tests : (k : Constraint) → Tells packages names trail at name d k → (on : Bool) → asks names k.what Tests on ≡ false
+  pub no-tests : (k : Constraint) → Tells packages names trail at name d k → (on : Bool) → requires_value names k.what Tests on ≡ false
   no-tests k version on = refl
-  no-tests k kind on = kind-asks names (entry_of packages d) Tests on
+  no-tests k kind on = kind-requires_value names (entry_of packages d) Tests on
   no-tests k (flags sets beside) on = refl
 
-  pub no-benches : (k : Constraint) → Tells packages names trail at name d k → (on : Bool) → asks names k.what Benches on ≡ false
+  pub no-benches : (k : Constraint) → Tells packages names trail at name d k → (on : Bool) → requires_value names k.what Benches on ≡ false
   no-benches k version on = refl
-  no-benches k kind on = kind-asks names (entry_of packages d) Benches on
+  no-benches k kind on = kind-requires_value names (entry_of packages d) Benches on
   no-benches k (flags sets beside) on = refl

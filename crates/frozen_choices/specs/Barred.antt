@@ -9,17 +9,17 @@ use Rattle.qualified_goals.specs.declared.variable.Part.{Part}
 use Rattle.qualified_goals.specs.declared.variable.Part.TheVariants.{Package as ThePackage, Flag, Tests, Benches}
 use Rattle.qualified_goals.specs.Names.{NameTable}
 use Rattle.choice_problem.specs.declared.problem.Choice.{Choice}
-use Rattle.constraint_set.specs.Bars.{asks, excludes, is_met}
+use Rattle.constraint_set.specs.Bars.{requires_value, excludes, applies}
 use Rattle.cabal_problem.specs.Variables.{is_on}
 use Rattle.frozen_choices.specs.Frozen.{entry_of}
 
 -- whether a constraint in scope excludes the instance of a choice
 abbrev pub excludes_choice : List Package → NameTable → List Constraint → Choice → Bool
-excludes_choice packages names constraints c = list_any (λ k. is_met names k c.var && excludes k.what (entry_of packages c).instance) constraints
+excludes_choice packages names constraints c = list_any (λ k. applies names k c.var && excludes k.what (entry_of packages c).instance) constraints
 
 -- whether a constraint in scope asks for the other value of a flag or stanza
 abbrev pub asks_for_other : NameTable → List Constraint → Choice → Bool
-asks_for_other names constraints c = list_any (λ k. is_met names k c.var && asks names k.what c.var.part (not (is_on c.val))) constraints
+asks_for_other names constraints c = list_any (λ k. applies names k c.var && requires_value names k.what c.var.part (not (is_on c.val))) constraints
 
 -- whether these constraints bar a choice
 abbrev pub bars_choice : List Package → NameTable → List Constraint → Choice → Part → Bool

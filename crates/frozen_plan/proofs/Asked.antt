@@ -20,7 +20,7 @@ use Rattle.qualified_goals.specs.Names.{Name, NameTable, number_of}
 use Rattle.choice_problem.specs.declared.problem.Choice.{Choice}
 use Rattle.choice_problem.specs.Trail.{AreNew, choice_of, value_in}
 use Rattle.choice_problem.specs.Twins.{is_of_package, is_whole}
-use Rattle.constraint_set.specs.Bars.{asks, flag_values, is_number, is_value}
+use Rattle.constraint_set.specs.Bars.{requires_value, flag_values, is_number, is_value}
 use Rattle.freeze_text.specs.Reads.{are_flags}
 use Rattle.solver_index.specs.Places.{entry_at, flag_number}
 use Rattle.cabal_problem.specs.ListedDemands.{part_beside}
@@ -48,8 +48,8 @@ record AsksFlag (names : NameTable) (sets : List FlagSet) (f : ℕ) (on : Bool) 
   numbered : is_number (number_of names.flags set.name) f ≡ true
   on_is : set.on ≡ on
 
-asks-flag : (names : NameTable) (sets : List FlagSet) (f : ℕ) (on : Bool) → asks names (what.Flags sets) (Flag f) on ≡ true → AsksFlag names sets f on
-asks-flag names sets f on h =
+requires_value-flag : (names : NameTable) (sets : List FlagSet) (f : ℕ) (on : Bool) → requires_value names (what.Flags sets) (Flag f) on ≡ true → AsksFlag names sets f on
+requires_value-flag names sets f on h =
     let (value, among, same) = any-at (λ value. is_value value on) (flag_values names sets f) h in
     let (set, there, in_set) = contains-flat_map (λ (s : FlagSet). if is_number (number_of names.flags s.name) f then s.on ∷ [] else []) sets value among in
     elim (is_number (number_of names.flags set.name) f) as (λ b. is_number (number_of names.flags set.name) f ≡ b → Contains (if b then set.on ∷ [] else []) value → AsksFlag names sets f on) [
@@ -63,14 +63,14 @@ asks-flag names sets f on h =
     ] refl in_set
 
 -- nothing that is asked of an instance asks for a flag
-range-asks-none : (names : NameTable) (at : Scope) (name : Name) (e : Entry) (f : ℕ) (on : Bool) (k : Constraint) → Contains (instance_asked at name e) k → asks names k.what (Flag f) on ≡ true → ⊥
-range-asks-none names at name e f on k h asked_it =
+range-requires_value-none : (names : NameTable) (at : Scope) (name : Name) (e : Entry) (f : ℕ) (on : Bool) (k : Constraint) → Contains (instance_asked at name e) k → requires_value names k.what (Flag f) on ≡ true → ⊥
+range-requires_value-none names at name e f on k h asked_it =
     let range = asked at name (what.Range (Equal e.instance.version)) in
     elim (contains-cases range (asked at name (kind_of e) ∷ []) k h) [
-      | inl first ↦ false≢true (subst (λ (j : Constraint). asks names j.what (Flag f) on ≡ true) (sym first) asked_it)
+      | inl first ↦ false≢true (subst (λ (j : Constraint). requires_value names j.what (Flag f) on ≡ true) (sym first) asked_it)
       | inr later ↦ elim (contains-cases (asked at name (kind_of e)) [] k later) [
-        | inl second ↦ elim (is_installed e.body) as (λ b. asks names (if b then what.Installed else what.Source) (Flag f) on ≡ true → ⊥) [ true ↦ λ q. false≢true q | false ↦ λ q. false≢true q ]
-            (subst (λ (j : Constraint). asks names j.what (Flag f) on ≡ true) (sym second) asked_it)
+        | inl second ↦ elim (is_installed e.body) as (λ b. requires_value names (if b then what.Installed else what.Source) (Flag f) on ≡ true → ⊥) [ true ↦ λ q. false≢true q | false ↦ λ q. false≢true q ]
+            (subst (λ (j : Constraint). requires_value names j.what (Flag f) on ≡ true) (sym second) asked_it)
         | inr none ↦ contains-none k none
       ]
     ]
@@ -84,13 +84,13 @@ module _ (packages : List Package) (names : NameTable) (trail : List Choice) whe
     on_is : is_turned_on (value_in trail (part_beside c (Flag (flag_number names decl.name)))) ≡ on
 
   flags-beside : (at : Scope) (name : Name) (c : Choice) (decls : List FlagDecl) (f : ℕ) (on : Bool) (k : Constraint) → Contains (flags_asked at name (map (flag_beside names trail c) decls)) k
-      → asks names k.what (Flag f) on ≡ true → IsBeside c decls f on × (k.«package» ≡ name)
+      → requires_value names k.what (Flag f) on ≡ true → IsBeside c decls f on × (k.«package» ≡ name)
   flags-beside at name c decls f on k h asked_it =
       let sets = map (flag_beside names trail c) decls in
       elim (are_flags sets) as (λ b. Contains (if b then asked at name (what.Flags sets) ∷ [] else []) k → IsBeside c decls f on × (k.«package» ≡ name)) [
         | true ↦ λ q. elim (contains-cases (asked at name (what.Flags sets)) [] k q) [
           | inl same ↦
-              let found = asks-flag names sets f on (subst (λ (j : Constraint). asks names j.what (Flag f) on ≡ true) (sym same) asked_it) in
+              let found = requires_value-flag names sets f on (subst (λ (j : Constraint). requires_value names j.what (Flag f) on ≡ true) (sym same) asked_it) in
               let (decl, among, set_is) = contains-map (flag_beside names trail c) decls found.set found.among in (
                 record {
                   decl = decl;
@@ -128,7 +128,7 @@ module _ (packages : List Package) (names : NameTable) (trail : List Choice) whe
     pub named : name ≡ (package_at packages p).name
     pub reason : IsReason ks p place decl
 
-  module _ (new : AreNew trail) (ks : List Constraint) (p f : ℕ) (on : Bool) (k : Constraint) (asked_it : asks names k.what (Flag f) on ≡ true) where
+  module _ (new : AreNew trail) (ks : List Constraint) (p f : ℕ) (on : Bool) (k : Constraint) (asked_it : requires_value names k.what (Flag f) on ≡ true) where
     abbrev name : Name
     name = (package_at packages p).name
 
@@ -142,7 +142,7 @@ module _ (packages : List Package) (names : NameTable) (trail : List Choice) whe
         let e = entry_of packages c in
         let test = is_automatic names (entries_of packages p) in
         elim (contains-append (instance_asked at name e) (flags_asked at name (automatic_flags packages names trail c)) k h) [
-          | inl range ↦ absurd (range-asks-none names at name e f on k range asked_it)
+          | inl range ↦ absurd (range-requires_value-none names at name e f on k range asked_it)
           | inr flags ↦
               let (beside, named) = flags-beside at name c (filter test (declared_by e.body)) f on k flags asked_it in
               let (declared, automatic) = contains-filter test (declared_by e.body) beside.decl beside.among in
@@ -199,7 +199,7 @@ module _ (packages : List Package) (names : NameTable) (trail : List Choice) whe
           let flags = flags_asked scope.Any name (all_flags packages names trail (taken q p i)) in
           let first = contains-left (instance_asked scope.Any name e) flags range (contains-head range (asked scope.Any name (kind_of e) ∷ [])) in
           elim (contains-append (instance_asked scope.Any name e) flags k h) [
-            | inl ranges ↦ absurd (range-asks-none names scope.Any name e f on k ranges asked_it)
+            | inl ranges ↦ absurd (range-requires_value-none names scope.Any name e f on k ranges asked_it)
             | inr of_flags ↦ local (λ decl. one_version (inside range first)) of_flags
           ]
 

@@ -33,7 +33,7 @@ use Rattle.qualified_goals.specs.Names.{AreNumbers, Name, NameTable, number_of}
 use Rattle.choice_problem.specs.declared.problem.Choice.{Choice}
 use Rattle.choice_problem.specs.Holds.{HoldsWithin}
 use Rattle.choice_problem.specs.Trail.{AreNew, choice_of, value_in}
-use Rattle.constraint_set.specs.Bars.{asks, bars, excludes, holds, is_boot, is_met, is_number, is_on, names_flag}
+use Rattle.constraint_set.specs.Bars.{requires_value, bars, excludes, covers, is_boot, applies, is_number, is_on, names_flag}
 use Rattle.solver_index.proofs.ListLaws.{rising-below}
 use Rattle.solver_index.specs.Defaults.{has_number}
 use Rattle.solver_index.specs.Places.{entry_at, flag_number, no_entry, rising}
@@ -57,10 +57,10 @@ number-is None n h = absurd (false≢true h)
 number-is (Some m) n h = ap Some (eqb-true m n h)
 
 -- a scope that holds everywhere
-any-holds : (names : NameTable) (q : Qual) → holds names scope.Any q ≡ true
-any-holds names Top = refl
-any-holds names (Setup p) = refl
-any-holds names (Exe p t) = refl
+any-covers : (names : NameTable) (q : Qual) → covers names scope.Any q ≡ true
+any-covers names Top = refl
+any-covers names (Setup p) = refl
+any-covers names (Exe p t) = refl
 
 not-false : (b : Bool) → not b ≡ false → b ≡ true
 not-false true h = refl
@@ -88,7 +88,7 @@ module _ (env : Env) (index : Index) (project : Project) (names : NameTable) (or
   more = with_constraints ks project
 
   -- a constraint on a package that asks for a flag comes from that package
-  asked-of-package : (p f : ℕ) (on : Bool) (k : Constraint) → Contains ks k → is_on names k p ≡ true → asks names k.what (Flag f) on ≡ true → IsAskedBeside packages names trail ks p k.«package» f on
+  asked-of-package : (p f : ℕ) (on : Bool) (k : Constraint) → Contains ks k → is_on names k p ≡ true → requires_value names k.what (Flag f) on ≡ true → IsAskedBeside packages names trail ks p k.«package» f on
   asked-of-package p f on k h on_p asked_it =
       let (q, among, inside) = contains-flat_map (frozen_package packages names trail) (rising (length packages)) k h in
       let found = in-package packages names trail new ks q f on k asked_it (λ j i. flat_map-contains (frozen_package packages names trail) (rising (length packages)) q j among i) inside in
@@ -103,10 +103,10 @@ module _ (env : Env) (index : Index) (project : Project) (names : NameTable) (or
   version-of owner e name free h numbered =
       let i = (entry_of packages owner).instance in
       let range = asked scope.Any name (what.Range (Equal e.instance.version)) in
-      let test = λ (c : Constraint). is_met names c owner.var && excludes c.what i in
+      let test = λ (c : Constraint). applies names c owner.var && excludes c.what i in
       let excluded = first-false (list_any test more.constraints) (is_boot more i) free in
       let out : test range ≡ false = none-at test more.constraints range excluded (contains-right project.constraints ks range h) in
-      let met : is_met names range owner.var ≡ true = and_from (is_number (number_of names.packages name) owner.var.«package») (holds names scope.Any owner.var.qual) numbered (any-holds names owner.var.qual) in
+      let met : applies names range owner.var ≡ true = and_from (is_number (number_of names.packages name) owner.var.«package») (covers names scope.Any owner.var.qual) numbered (any-covers names owner.var.qual) in
       let member : members (Equal e.instance.version) i.version ≡ true = not-false (members (Equal e.instance.version) i.version) (sym (ap (λ b. b && excludes range.what i) met) ∙ out) in
       equal-members e.instance.version i.version member
 
@@ -184,14 +184,14 @@ module _ (env : Env) (index : Index) (project : Project) (names : NameTable) (or
     pub no-other : (on : Bool) → flag_allows more names v decl on ≡ true → flag_allows project names v decl on ≡ true
     no-other on h =
         let front = not decl.manual || is_same decl.default on in
-        let test = λ (c : Constraint). is_on names c p && asks names c.what v.part on in
+        let test = λ (c : Constraint). is_on names c p && requires_value names c.what v.part on in
         elim (or_cases front (names_flag more names v on) h) [
           | inl default ↦ or_left front (names_flag project names v on) default
           | inr named ↦ elim (any-parts test project.constraints ks named) [
             | inl own ↦ or_right front (names_flag project names v on) own
             | inr frozen_one ↦
                 let (k, among, passes) = any-at test ks frozen_one in
-                let parts = and_parts (is_on names k p) (asks names k.what v.part on) passes in
+                let parts = and_parts (is_on names k p) (requires_value names k.what v.part on) passes in
                 let is = asked-of-package p (flag_number names decl.name) on k among parts.0 parts.1 in
                 elim decl.manual as (λ b. decl.manual ≡ b → flag_allows project names v decl on ≡ true) [
                   | true ↦ λ manual. by-reason on k.«package» is parts.0 manual is.reason

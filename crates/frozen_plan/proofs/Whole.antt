@@ -28,13 +28,13 @@ use Rattle.choice_problem.specs.General.{General, Request, request_of}
 use Rattle.choice_problem.specs.Trail.{AreNew, value_in}
 use Rattle.choice_problem.specs.Valid.{IsWholeValid}
 use Rattle.choice_problem.proofs.Trails.{is_made-is, value_in-made}
-use Rattle.constraint_set.specs.Bars.{asks, excludes, is_boot, is_met, is_on, names_flag, wants}
+use Rattle.constraint_set.specs.Bars.{requires_value, excludes, is_boot, applies, is_on, names_flag, requires_stanza}
 use Rattle.solver_index.specs.AllowedVersions.{allowed_versions}
 use Rattle.solver_index.specs.Places.{flag_number}
 use Rattle.cabal_problem.specs.ListedDemands.{flag_allows, flag_demand, has_stanzas, part_beside, stanza_if}
 use Rattle.cabal_problem.specs.Problem.{barred_part}
 use Rattle.cabal_problem.specs.Variables.{has_kind, is_benchmark, is_on as value_on, is_suite}
-use Rattle.cabal_problem.specs.WholeDemands.{body_requests, can_ask, front_demands, part_requests, requests_of, setup_request, setup_requests, whole_problem, whole_request}
+use Rattle.cabal_problem.specs.WholeDemands.{body_requests, has_stanza_variable, front_demands, part_requests, requests_of, setup_request, setup_requests, whole_problem, whole_request}
 use Rattle.frozen_choices.specs.Barred.{BarsNone, bars_choice, with_constraints}
 use Rattle.frozen_choices.specs.Frozen.{entry_of, frozen}
 use Rattle.frozen_plan.specs.Narrower.{AddsNothing, BarsNoneOf, IsNarrowed, IsNarrower, StaysFirst}
@@ -71,13 +71,13 @@ module _ (packages : List Package) (project : Project) (names : NameTable) (ks :
 
   -- what excludes the instance of a choice, and what asks for the other value of a part
   abbrev excluding : Choice → Constraint → Bool
-  excluding c k = is_met names k c.var && excludes k.what (entry_of packages c).instance
+  excluding c k = applies names k c.var && excludes k.what (entry_of packages c).instance
 
   abbrev asking : Choice → Constraint → Bool
-  asking c k = is_met names k c.var && asks names k.what c.var.part (not (value_on c.val))
+  asking c k = applies names k c.var && requires_value names k.what c.var.part (not (value_on c.val))
 
   abbrev wanted : Choice → Bool
-  wanted c = wants project.tests project.benchmarks c.var.part && not (value_on c.val)
+  wanted c = requires_stanza project.tests project.benchmarks c.var.part && not (value_on c.val)
 
   fewer-of : (test : Constraint → Bool) (rest : Bool) → (list_any test (project.constraints ++ ks) || rest) ≡ false → (list_any test project.constraints || rest) ≡ false
   fewer-of test rest h = fewer (list_any test project.constraints) (list_any test (project.constraints ++ ks)) rest (any-front test project.constraints ks) h
@@ -97,7 +97,7 @@ module _ (packages : List Package) (project : Project) (names : NameTable) (ks :
   -- a flag may have each value that it may have without them
   allows-more : (v : Var) (decl : FlagDecl) (on : Bool) → flag_allows project names v decl on ≡ true → flag_allows more names v decl on ≡ true
   allows-more v decl on h =
-      let test = λ (k : Constraint). is_on names k v.«package» && asks names k.what v.part on in
+      let test = λ (k : Constraint). is_on names k v.«package» && requires_value names k.what v.part on in
       let front = not decl.manual || is_same decl.default on in
       elim (or_cases front (names_flag project names v on) h) [
         | inl default ↦ or_left front (names_flag more names v on) default
@@ -168,7 +168,7 @@ module _ (env : Env) (index : Index) (project : Project) (names : NameTable) (or
       let front = front_demands packages project names owner d in
       let front_also = front_demands packages frozen_project names owner d in
       let as_requests = zip-mapped R request_of front front_also with_benches in
-      let deps = map (whole_request env packages names owner allows) (filter (can_ask (has_stanzas packages owner.var)) (outward d)) in
+      let deps = map (whole_request env packages names owner allows) (filter (has_stanza_variable (has_stanzas packages owner.var)) (outward d)) in
       let scripts = setup_requests d.custom (map (setup_request packages names owner allows) d.setup) in
       zip-append R (requests_of front ++ deps) (requests_of front_also ++ deps) scripts scripts
       (zip-append R (requests_of front) (requests_of front_also) deps deps as_requests (zip-self R deps (same h))) (zip-self R scripts (same h))

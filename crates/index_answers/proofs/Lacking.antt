@@ -7,7 +7,7 @@ use Rattle.std.proofs.lemmas.Bool.{and_from, and_parts, eqb-false, eqb-true, eq-
 use Rattle.std.proofs.lemmas.List.{length-map}
 use Rattle.common_laws.specs.Graphs.{IsMarked, Needs, marked_within, needs_within}
 use Rattle.common_laws.specs.Lists.{any-at, any-from}
-use Rattle.broken_units.specs.Leads.{Leads, here, over}
+use Rattle.broken_units.specs.Leads.{ReachesMarked, here, over}
 use Rattle.file_answers.proofs.Cycles.{below_more}
 use Rattle.index_files.specs.declared.unit.Unit.{Unit}
 use Rattle.index_assembly.specs.Lacks.{AreLacking, lacks_one, needed_places}
@@ -80,13 +80,13 @@ table_at mark (suc n) (suc i) l = table_at (λ k. mark (suc k)) n i (omega (arit
 
 module _ (needs : List (List ℕ)) (marks : List Bool) where
   abbrev IsRight : (ℕ → Bool) → Type 0
-  IsRight mark = (u : ℕ) → mark u ≡ true → Leads needs marks u
+  IsRight mark = (u : ℕ) → mark u ≡ true → ReachesMarked needs marks u
 
   abbrev Begins : (ℕ → Bool) → Type 0
   Begins mark = (u : ℕ) → IsMarked marks u → mark u ≡ true
 
   abbrev Found : Type 0
-  Found = (mark : ℕ → Bool) × IsRight mark × ((u : ℕ) → Leads needs marks u → mark u ≡ true)
+  Found = (mark : ℕ → Bool) × IsRight mark × ((u : ℕ) → ReachesMarked needs marks u → mark u ≡ true)
 
   abbrev is_next : (ℕ → Bool) → ℕ → Bool
   is_next mark u = not (mark u) && list_any mark (slice_index_or needs u [])
@@ -102,7 +102,7 @@ module _ (needs : List (List ℕ)) (marks : List Bool) where
               let next = and_from (not (mark u)) (list_any mark (slice_index_or needs u [])) (ap not q) (any-from mark (slice_index_or needs u []) v need h) in
               absurd (false≢true (sym (none u (needs_within needs u v need)) ∙ next))
 
-      closed : (u : ℕ) → Leads needs marks u → mark u ≡ true
+      closed : (u : ℕ) → ReachesMarked needs marks u → mark u ≡ true
       closed u (here h) = begins u h
       closed u (over v need h) = over_marked u v need (closed v h)
 
@@ -110,13 +110,13 @@ module _ (needs : List (List ℕ)) (marks : List Bool) where
       abbrev parts : (not (mark u) ≡ true) × (list_any mark (slice_index_or needs u []) ≡ true)
       parts = and_parts (not (mark u)) (list_any mark (slice_index_or needs u [])) next
 
-      leads_too : Leads needs marks u
+      leads_too : ReachesMarked needs marks u
       leads_too = let found = any-at mark (slice_index_or needs u []) parts.1 in over found.0 found.1 (right found.0 found.2)
 
       right_more : IsRight (one_more mark u)
       right_more w h =
           elim (or_cases (w == u) (mark w) h) [
-            | inl same ↦ subst (Leads needs marks) (sym (eqb-true w u same)) leads_too
+            | inl same ↦ subst (ReachesMarked needs marks) (sym (eqb-true w u same)) leads_too
             | inr marked ↦ right w marked
           ]
 
@@ -145,7 +145,7 @@ module _ (needs : List (List ℕ)) (marks : List Bool) where
   some_marks : Found
   some_marks = grow (unmarked at_first (length needs)) at_first (omega arith) (λ u h. here h) (λ u h. h)
 
-  within : (n : ℕ) → length needs ≡ n → length marks ≡ n → (u : ℕ) → Leads needs marks u → u < n
+  within : (n : ℕ) → length needs ≡ n → length marks ≡ n → (u : ℕ) → ReachesMarked needs marks u → u < n
   within n e k u (here h) = let l = marked_within marks u h in omega (arith, k, l)
   within n e k u (over v need h) = let l = needs_within needs u v need in omega (arith, e, l)
 

@@ -1,7 +1,7 @@
 -- Units that are left out, since a unit without a record is reached from them.
 use Rattle.std.specs.Prelude.{◌≡◌, ◌↔◌, ℕ, Bool, true, false, List, [], ◌∷◌, length, map, flat_map, Option, Some, None}
 use Rattle.std.specs.List.{list_any}
-use Rattle.broken_units.specs.Leads.{Leads}
+use Rattle.broken_units.specs.Leads.{ReachesMarked}
 use Rattle.common_laws.specs.Graphs.{IsMarked}
 use Rattle.index_files.specs.Units.{place_of}
 use Rattle.index_files.specs.declared.unit.Unit.{Unit}
@@ -27,4 +27,4 @@ lacks_one units u = list_any (λ id. is_none (place_of units id)) u.record_of.de
 -- A unit is marked iff a unit that needs one without a record is reached from it, itself included.
 pub record AreLacking (units : List Unit) (lacking : List Bool) : Type 0 where
   pub length_is : length lacking ≡ length units
-  pub leads : (i : ℕ) → IsMarked lacking i ↔ Leads (map (needed_places units) units) (map (lacks_one units) units) i
+  pub leads : (i : ℕ) → IsMarked lacking i ↔ ReachesMarked (map (needed_places units) units) (map (lacks_one units) units) i

@@ -12,7 +12,7 @@ use Rattle.outside_folder.specs.Files.{Bytes, Files}
 use Rattle.index_files.specs.Closure.{Ground, HasVersions, IsBeyond, IsPart, IsReached, IsVisit, IsWhole, ReadsAs, Visit, by_name, found_of, is_local, mentioned, names_of, root, roots, visited_files}
 use Rattle.index_files.specs.File.{count_all, count_of, size_all, size_of}
 use Rattle.index_files.specs.Names.{is_listed, put_all}
-use Rattle.index_files.specs.Steps.{AreJudged, AreKept, ArePartly, IsOneTooMany, IsVisited, is_given, pair_up}
+use Rattle.index_files.specs.Steps.{AreJudged, AreKept, AreReadSoFar, IsOneTooMany, IsVisited, is_given, pair_up}
 use Rattle.index_files.specs.Totals.{is_too_many}
 use Rattle.index_files.specs.declared.closure.FoundName.{FoundName}
 use Rattle.index_files.specs.declared.release.Release.{Release}
@@ -119,8 +119,8 @@ module _ (ground : Ground) where
       -- ---- over an observable folder
 
       module _ (files : Files) (before mid after : Totals) where
-        pub partly-next : ArePartly ground files before mid names (pair_up names read) → IsVisited ground files (get_or names (length read) []) mid after r
-            → ArePartly ground files before after new (pair_up new (read ++ r ∷ []))
+        pub partly-next : AreReadSoFar ground files before mid names (pair_up names read) → IsVisited ground files (get_or names (length read) []) mid after r
+            → AreReadSoFar ground files before after new (pair_up new (read ++ r ∷ []))
         partly-next p v =
             let visit : Visit = record { name = get_or names (length read) []; dirs = v.dirs; releases = r } in
             let reached-here = at-place (IsReached ground files) names (length read) within p.reached in
@@ -138,7 +138,7 @@ module _ (ground : Ground) where
             }
 
   module _ (files : Files) where
-    pub partly-first : (names : List Bytes) (totals : Totals) → names ≡ put_all [] (roots ground) → ArePartly ground files totals totals names (pair_up names [])
+    pub partly-first : (names : List Bytes) (totals : Totals) → names ≡ put_all [] (roots ground) → AreReadSoFar ground files totals totals names (pair_up names [])
     partly-first names totals e = record {
       visits = [];
       found_is = pair_none names;
@@ -165,7 +165,7 @@ module _ (ground : Ground) where
     few-are : (m n j k : ℕ) → m ≡ j → n ≡ k → m ≤ 20000 → n ≤ 268435456 → is_too_many j k ≡ false
     few-are m n j k e f a b = grind (arith, nat_tests)
 
-    pub whole : (names : List Bytes) (read : List (List Release)) (before after : Totals) → length names ≤ length read → AreKept ground names (pair_up names read) → ArePartly ground files before after names (pair_up names read)
+    pub whole : (names : List Bytes) (read : List (List Release)) (before after : Totals) → length names ≤ length read → AreKept ground names (pair_up names read) → AreReadSoFar ground files before after names (pair_up names read)
         → after.files ≤ 20000 → after.bytes ≤ 268435456 → IsWhole ground before.files before.bytes files (pair_up names read)
     whole names read before after all k p few_files few_bytes =
         let same-names : names ≡ names_of p.visits = sym (pair_names names read all) ∙ ap (map (λ (f : FoundName). f.name)) p.found_is ∙ names-found p.visits in
@@ -203,7 +203,7 @@ module _ (ground : Ground) where
     parts-of (v ∷ visits) h k = (record { reached = h.0; versions = part-of v (is_local ground v.name) k.0 }, parts-of visits h.1 k.1)
 
     module _ (names : List Bytes) (read : List (List Release)) (before mid : Totals) (within : length read < length names) where
-      pub beyond : AreKept ground names (pair_up names read) → ArePartly ground files before mid names (pair_up names read) → IsOneTooMany ground files (get_or names (length read) []) mid
+      pub beyond : AreKept ground names (pair_up names read) → AreReadSoFar ground files before mid names (pair_up names read) → IsOneTooMany ground files (get_or names (length read) []) mid
           → IsBeyond ground before.files before.bytes files
       beyond k p v =
           let name = get_or names (length read) [] in

@@ -3,7 +3,7 @@ use Rattle.std.proofs.Common.{◌≡◌, ◌<◌, ◌≤◌, List, [], ◌∷◌
 use Rattle.std.proofs.lemmas.List.{length-map, map-append}
 use Rattle.outside_folder.specs.Files.{Bytes, Files}
 use Rattle.index_files.specs.Closure.{Ground, IsBeyond, IsWhole, mentioned}
-use Rattle.index_files.specs.Steps.{AreJudged, AreKept, ArePartly, Finds, IsOneTooMany, IsVisited, pair_up}
+use Rattle.index_files.specs.Steps.{AreJudged, AreKept, AreReadSoFar, Finds, IsOneTooMany, IsVisited, pair_up}
 use Rattle.index_files.specs.declared.closure.FoundName.{FoundName}
 use Rattle.index_files.specs.declared.release.Release.{Release}
 use Rattle.index_files.specs.declared.totals.Totals.{Totals}
@@ -52,16 +52,16 @@ module _ (ground : Ground) (names new : List Bytes) (found : List FoundName) (wi
     kept-on k = subst (AreKept ground new) (sym joined)
         (kept-next ground names new (releases_in found) one.releases before put-is (subst (AreKept ground names) pairs k) (subst (λ n. AreJudged ground.env n one.releases) name-is f.judged))
 
-    pub partly-on : (files : Files) (start mid after : Totals) → ArePartly ground files start mid names found → IsVisited ground files (get_or names (length found) []) mid after one.releases
-        → ArePartly ground files start after new (found ++ one ∷ [])
-    partly-on files start mid after p v = subst (ArePartly ground files start after new) (sym joined)
-        (partly-next ground names new (releases_in found) one.releases before put-is files start mid after (subst (ArePartly ground files start mid names) pairs p)
+    pub partly-on : (files : Files) (start mid after : Totals) → AreReadSoFar ground files start mid names found → IsVisited ground files (get_or names (length found) []) mid after one.releases
+        → AreReadSoFar ground files start after new (found ++ one ∷ [])
+    partly-on files start mid after p v = subst (AreReadSoFar ground files start after new) (sym joined)
+        (partly-next ground names new (releases_in found) one.releases before put-is files start mid after (subst (AreReadSoFar ground files start mid names) pairs p)
         (subst (λ n. IsVisited ground files n mid after one.releases) same-name v))
 
-  pub beyond-here : (files : Files) (start mid : Totals) → AreKept ground names found → ArePartly ground files start mid names found → IsOneTooMany ground files (get_or names (length found) []) mid
+  pub beyond-here : (files : Files) (start mid : Totals) → AreKept ground names found → AreReadSoFar ground files start mid names found → IsOneTooMany ground files (get_or names (length found) []) mid
       → IsBeyond ground start.files start.bytes files
   beyond-here files start mid k p v =
-      beyond ground files names (releases_in found) start mid before (subst (AreKept ground names) pairs k) (subst (ArePartly ground files start mid names) pairs p)
+      beyond ground files names (releases_in found) start mid before (subst (AreKept ground names) pairs k) (subst (AreReadSoFar ground files start mid names) pairs p)
       (subst (λ n. IsOneTooMany ground files n mid) same-name v)
 
 module _ (ground : Ground) (names : List Bytes) (found : List FoundName) (all : length names ≤ length found) (pairs : found ≡ pair_up names (releases_in found)) where
@@ -74,8 +74,8 @@ module _ (ground : Ground) (names : List Bytes) (found : List FoundName) (all : 
   pub kept-all : AreKept ground names found → AreKept ground (map (λ (f : FoundName). f.name) found) found
   kept-all k = subst (λ ns. AreKept ground ns found) (sym all-names) k
 
-  pub whole-all : (files : Files) (start after : Totals) → AreKept ground names found → ArePartly ground files start after names found → after.files ≤ 20000 → after.bytes ≤ 268435456
+  pub whole-all : (files : Files) (start after : Totals) → AreKept ground names found → AreReadSoFar ground files start after names found → after.files ≤ 20000 → after.bytes ≤ 268435456
       → IsWhole ground start.files start.bytes files found
   whole-all files start after k p few_files few_bytes =
       subst (IsWhole ground start.files start.bytes files) (sym pairs)
-      (whole ground files names (releases_in found) start after enough (subst (AreKept ground names) pairs k) (subst (ArePartly ground files start after names) pairs p) few_files few_bytes)
+      (whole ground files names (releases_in found) start after enough (subst (AreKept ground names) pairs k) (subst (AreReadSoFar ground files start after names) pairs p) few_files few_bytes)

@@ -15,7 +15,7 @@ use Rattle.index_files.specs.InTurn.{GoesOn, InTurn}
 use Rattle.index_files.specs.Locals.{AreLocals, FileComes, local_name, local_names, local_path, with_file}
 use Rattle.index_files.specs.OnceEach.{unless_there}
 use Rattle.index_files.specs.Readings.{AreFromFiles, IsFromFile}
-use Rattle.index_files.specs.Units.{AreUnits, IsFormed, RecordComes, is_formed, place_of, unit_id, unit_ids, unit_path, with_record}
+use Rattle.index_files.specs.Units.{AreUnits, IsWellFormed, RecordComes, is_well_formed, place_of, unit_id, unit_ids, unit_path, with_record}
 use Rattle.index_files.specs.declared.file.File.{File}
 use Rattle.index_files.specs.declared.local.Local.{Local}
 use Rattle.index_files.specs.declared.unit.Unit.{Unit}
@@ -90,8 +90,8 @@ pub units-once : (files : List File) (us : List Unit) → AreUnits files (Ok us)
 unfolding IsDistinct
 units-once files us h = from-records files [] us tt h
 
-pub all-formed : (us : List Unit) → list_all is_formed us ≡ true → AllByRecursion IsFormed us
+pub all-formed : (us : List Unit) → list_all is_well_formed us ≡ true → AllByRecursion IsWellFormed us
 all-formed [] h = tt
 all-formed (u ∷ us) h =
-    let here = (and_parts (is_formed u) (list_all is_formed us) h).0 in
-    (record { name = (and_parts _ _ here).0; version = (and_parts _ _ here).1 }, all-formed us ((and_parts (is_formed u) (list_all is_formed us) h).1))
+    let here = (and_parts (is_well_formed u) (list_all is_well_formed us) h).0 in
+    (record { name = (and_parts _ _ here).0; version = (and_parts _ _ here).1 }, all-formed us ((and_parts (is_well_formed u) (list_all is_well_formed us) h).1))

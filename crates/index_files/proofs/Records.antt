@@ -10,7 +10,7 @@ use Rattle.plan_types.specs.declared.refusal.Fault.TheVariants as fault
 use Rattle.version_range.specs.Version.{is_version}
 use Rattle.description.specs.FaultOrder.{is_at}
 use Rattle.unit_record.specs.Record.{IsRecord}
-use Rattle.index_files.specs.Units.{OfRecord, is_formed}
+use Rattle.index_files.specs.Units.{OfRecord, is_well_formed}
 use Rattle.std.proofs.lemmas.Bool.{and_from}
 
 pub found-as : (bytes : List ℕ) (result : Result (Option UnitRecord) Fault) → IfOk result (λ found. IsRecord bytes (Ok found)) → IfOk result (λ found. OfRecord (Some bytes) (Ok found))
@@ -23,11 +23,11 @@ fault-as bytes (Ok found) h = tt
 fault-as bytes (Err fault.NoMemory) h = tt
 fault-as bytes (Err (fault.At line cause)) h = (Err line, h.1, ap (λ c. Err (is_at line c)) h.0)
 
-formed : (path : List ℕ) (r : UnitRecord) → is_package_name r.name ≡ true → is_version r.version.parts ≡ true → is_formed (record { path = path; record_of = r }) ≡ true
+formed : (path : List ℕ) (r : UnitRecord) → is_package_name r.name ≡ true → is_version r.version.parts ≡ true → is_well_formed (record { path = path; record_of = r }) ≡ true
 formed path r h k = and_from _ _ h k
 
 pub formed-as : (result : Result (Option UnitRecord) Fault) → IfOk result (λ found. IfSome found (λ r. is_package_name r.name ≡ true)) → IfOk result (λ found. IfSome found (λ r. is_version r.version.parts ≡ true))
-    → IfOk result (λ found. IfSome found (λ r. (path : List ℕ) → is_formed (record { path = path; record_of = r }) ≡ true))
+    → IfOk result (λ found. IfSome found (λ r. (path : List ℕ) → is_well_formed (record { path = path; record_of = r }) ≡ true))
 formed-as (Ok None) h k = tt
 formed-as (Ok (Some r)) h k = λ path. formed path r h k
 formed-as (Err f) h k = tt

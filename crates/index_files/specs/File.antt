@@ -55,8 +55,8 @@ pub record Counts (before after : Totals) (read : List File) : Type 0 where
   pub bytes : after.bytes ≡ before.bytes + size_all read
 
 -- the content of a file is within the size limit
-abbrev pub IsReadable : File → Type 0
-IsReadable file = IsWithin file.content
+abbrev pub HasContentWithinLimit : File → Type 0
+HasContentWithinLimit file = IsWithin file.content
 
 -- the totals are those of these files
 pub record CountsAll (totals : Totals) (read : List File) : Type 0 where

@@ -11,7 +11,7 @@ use Rattle.index_files.specs.File.{count_all, size_all}
 use Rattle.index_files.specs.InTurn.{GoesOn}
 use Rattle.index_files.specs.Locals.{FileComes, ReadsLocals, local_names}
 use Rattle.index_files.specs.Steps.{AreKept}
-use Rattle.index_files.specs.Units.{IsFormed, ReadsUnits, record_files, unit_ids}
+use Rattle.index_files.specs.Units.{IsWellFormed, ReadsUnits, record_files, unit_ids}
 use Rattle.index_files.specs.declared.file.File.{File}
 use Rattle.index_files.specs.declared.local.Local.{Local}
 use Rattle.plan_types.specs.declared.index.Places.{Places}
@@ -55,15 +55,15 @@ pub record AreFromFiles (env : Env) (locals : List Local) : Type 0 where
   pub read : AllByRecursion (IsFromFile env) locals
 
 -- the readings are over this ground
-pub record AreOf (ground : Ground) (readings : Readings) : Type 0 where
+pub record AreOverGround (ground : Ground) (readings : Readings) : Type 0 where
   pub locals : readings.locals ≡ ground.locals
   pub units : readings.units ≡ ground.units
-  pub units_formed : AllByRecursion IsFormed readings.units
+  pub units_formed : AllByRecursion IsWellFormed readings.units
   pub kept : AreKept ground (map (λ f. f.name) readings.found) readings.found
 
 -- properties of the readings of any folder, observable or not
-pub record HaveForm (env : Env) (places : Places) (extra : List Named) (readings : Readings) : Type 0 where
+pub record AreWellFormed (env : Env) (places : Places) (extra : List Named) (readings : Readings) : Type 0 where
   pub locals : AreFromFiles env readings.locals
   pub units_once : IsDistinct same_text (unit_ids readings.units)
-  pub units_formed : AllByRecursion IsFormed readings.units
+  pub units_formed : AllByRecursion IsWellFormed readings.units
   pub kept : AreKept (record { env = env; places = places; locals = readings.locals; units = readings.units; extra = extra }) (map (λ f. f.name) readings.found) readings.found

@@ -7,7 +7,7 @@ use Rattle.plan_types.specs.declared.description.Description.{Description}
 use Rattle.plan_types.specs.declared.refusal.Cause.TheVariants.{WrongPlace}
 use Rattle.plan_types.specs.declared.version.Version.{Version}
 use Rattle.description.specs.declared.fault_order.At.{At}
-use Rattle.flatten.specs.Demands.{Outward}
+use Rattle.flatten.specs.Demands.{ExternalDep}
 use Rattle.flatten.specs.Sound.{asked_packages}
 use Rattle.outside_folder.specs.declared.calls.Content.{Content}
 use Rattle.outside_folder.specs.declared.calls.Content.TheVariants.{Missing, TooLarge, Bytes as Holds}
@@ -100,7 +100,7 @@ abbrev pub asked_in : List Release → List Bytes
 asked_in releases = flat_map (λ release. asked_by release.judged) releases
 
 -- the name of the package that a dependency is on
-abbrev pub outward_name : Outward → Bytes
+abbrev pub outward_name : ExternalDep → Bytes
 outward_name at = at.guarded.dep.«package»
 
 -- ---- steps

@@ -91,7 +91,7 @@ pub record AreKept (ground : Ground) (names : List Bytes) (found : List FoundNam
   pub judged : AllByRecursion (λ f. AreJudged ground.env f.name f.releases) found
 
 -- All names so far are reached; those that were read have complete visits, whose files were counted.
-pub record ArePartly (ground : Ground) (files : Files) (before after : Totals) (names : List Bytes) (found : List FoundName) : Type 0 where
+pub record AreReadSoFar (ground : Ground) (files : Files) (before after : Totals) (names : List Bytes) (found : List FoundName) : Type 0 where
   pub visits : List Visit
   pub found_is : found ≡ map found_of visits
   pub read : AllByRecursion (IsVisit ground files) visits

@@ -146,10 +146,10 @@ abbrev pub needed_by : List Unit → Bytes → List Bytes
 needed_by units name = needed_among units name units
 
 -- whether the name and version of a unit are well-formed
-abbrev pub is_formed : Unit → Bool
-is_formed u = is_package_name (unit_name u) && is_version u.record_of.version.parts
+abbrev pub is_well_formed : Unit → Bool
+is_well_formed u = is_package_name (unit_name u) && is_version u.record_of.version.parts
 
 -- the name and version of a unit are well-formed
-pub record IsFormed (u : Unit) : Type 0 where
+pub record IsWellFormed (u : Unit) : Type 0 where
   pub name : is_package_name (unit_name u) ≡ true
   pub version : is_version u.record_of.version.parts ≡ true

@@ -3,7 +3,7 @@ ghost use Rattle.std.specs.Prelude.{◌≡◌, ◌+◌, ◌==◌, false, length,
 ghost use Rattle.std.specs.List.{AllByRecursion};
 ghost use Rattle.outside_folder.specs.Calls.{Leaves};
 ghost use Rattle.outside_folder.specs.declared.calls.Trouble.TheVariants.{Failed as trouble_failed};
-ghost use Rattle.index_files.specs.File.{Counts, IsReadable, content_found, count_of, file_found, fitting_at, size_of};
+ghost use Rattle.index_files.specs.File.{Counts, HasContentWithinLimit, content_found, count_of, file_found, fitting_at, size_of};
 
 use crate::totals::Totals;
 use outside_folder::{Content, Folder, Trouble, read_content};
@@ -57,7 +57,7 @@ pub(crate) fn read_counted<F: Folder>(
 ) -> Result<Fetched, Trouble>
     ensures told { IfSome (F.tells folder.old) (λ files. IfOk result (λ read. read.files ≡ fitting_at totals.old false files paths.now)) }
     ensures counts { IfOk result (λ read. Counts totals.old totals.new read.files) }
-    ensures readable { IfOk result (λ read. AllByRecursion IsReadable read.files) }
+    ensures readable { IfOk result (λ read. AllByRecursion HasContentWithinLimit read.files) }
     ensures beyond { IfOk result (λ read. read.beyond ≡ not (length read.files == length paths.now)) }
     ensures folder { Leaves F.tells F.faults folder.old folder.new (IsErrOf result Trouble.Failed) }
 {
@@ -86,7 +86,7 @@ pub(crate) fn read_file<F: Folder>(
     folder: &mut F,
 ) -> Result<File, Trouble>
     ensures told { IfSome (F.tells folder.old) (λ files. IfOk result (λ file. file ≡ file_found listed files path.now)) }
-    ensures readable { IfOk result IsReadable }
+    ensures readable { IfOk result HasContentWithinLimit }
     ensures folder { Leaves F.tells F.faults folder.old folder.new (IsErrOf result Trouble.Failed) }
 {
     let content = read_content(alloc, path.as_str(), folder)?;

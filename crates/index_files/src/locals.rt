@@ -1,7 +1,7 @@
 // The local packages, each judged before the next is read. Their names are distinct.
 ghost use Rattle.std.specs.Prelude.{◌≡◌, ◌++◌, ◌∷◌, [], position, None, IfOk, IfSome, IsErrOf};
 ghost use Rattle.outside_folder.specs.Calls.{Leaves};
-ghost use Rattle.index_files.specs.File.{IsReadable};
+ghost use Rattle.index_files.specs.File.{HasContentWithinLimit};
 ghost use Rattle.index_files.specs.Readings.{AreFromFiles};
 ghost use Rattle.index_files.specs.InTurn.{OnPart, Steps};
 ghost use Rattle.index_files.specs.Locals.{FileComes, ReadsLocals, TakesLocal, local_name, local_names, with_file, with_local};
@@ -66,7 +66,7 @@ impl Locals {
     }
 
     fn with_file(self, alloc: Global, file: &File, env: &Env) -> Result<Locals, Halt>
-        requires { IsReadable file.now }
+        requires { HasContentWithinLimit file.now }
         ensures { Settles (OnPart (λ locals. locals.list) (Steps (FileComes env.now) with_file self.list file.now)) result }
     {
         match source_in(alloc, &file.content, env) {

@@ -6,7 +6,7 @@ ghost use Rattle.index_files.specs.File.{CountsAll};
 ghost use Rattle.index_files.specs.Ground.{ground_from};
 ghost use Rattle.index_files.specs.InTurn.{OnPart};
 ghost use Rattle.plan_types.specs.Refusal.{Answers};
-ghost use Rattle.index_files.specs.Readings.{AreIndexed, AreOf, AreReadings, HaveForm};
+ghost use Rattle.index_files.specs.Readings.{AreIndexed, AreOverGround, AreReadings, AreWellFormed};
 ghost use Rattle.index_files.specs.Units.{ReadsUnits, is_record, paths_of_records, record_files, record_paths, unit_ids};
 ghost use Rattle.plan_types.specs.Bytes.{same_text};
 
@@ -45,7 +45,7 @@ pub fn read_index_files<F: Folder>(
     folder: &mut F,
 ) -> Result<Readings, Halt>
     ensures told { IfSome (F.tells folder.old) (λ files. Answers (AreReadings env.now places.now extra.now paths.now files) result) }
-    ensures form { IfOk result (HaveForm env.now places.now extra.now) }
+    ensures form { IfOk result (AreWellFormed env.now places.now extra.now) }
     ensures folder { Leaves F.tells F.faults folder.old folder.new (IsErrOf result Halt.Failed) }
 {
     let locals = read_locals(alloc, paths.as_slice(), env, folder)?;
@@ -111,7 +111,7 @@ fn read_indexed<F: Folder>(
     ensures told { IfSome (F.tells folder.old) (λ files. Answers
         (AreIndexed (ground_from env.now places.now locals counted.units extra.now) counted.totals.files
         counted.totals.bytes files) result) }
-    ensures kept { IfOk result (AreOf (ground_from env.now places.now locals counted.units extra.now)) }
+    ensures kept { IfOk result (AreOverGround (ground_from env.now places.now locals counted.units extra.now)) }
     ensures folder { Leaves F.tells F.faults folder.old folder.new (IsErrOf result Halt.Failed) }
 {
     let Counted { units, totals } = counted;

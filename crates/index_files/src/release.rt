@@ -3,7 +3,7 @@ ghost use Rattle.std.specs.Prelude.{◌≡◌, length, IfOk, OnOk};
 ghost use Rattle.std.specs.List.{AllByRecursion};
 ghost use Rattle.std.specs.declared.result.Result.TheVariants.{Ok};
 ghost use Rattle.outside_folder.specs.Calls.{IsWithin};
-ghost use Rattle.index_files.specs.File.{IsReadable};
+ghost use Rattle.index_files.specs.File.{HasContentWithinLimit};
 ghost use Rattle.index_files.specs.Releases.{AddsJudged, AddsRelease, AreReleases, IsJudged, is_in_place, judged_as};
 
 use crate::file::File;
@@ -38,7 +38,7 @@ pub(crate) fn releases_of(
     env: &Env,
 ) -> Result<List<Release>, NoMemory>
     requires as_many { length files.now ≡ length dirs.now }
-    requires readable { AllByRecursion IsReadable files.now }
+    requires readable { AllByRecursion HasContentWithinLimit files.now }
     ensures { IfOk result (AreReleases env.now name.now dirs.now files.now) }
 {
     let mut releases = List::new(alloc);
@@ -56,7 +56,7 @@ fn push_release(
     file: &File,
     env: &Env,
 ) -> Result<(), NoMemory>
-    requires { IsReadable file.now }
+    requires { HasContentWithinLimit file.now }
     ensures { OnOk result (AddsRelease env.now name.now dir.now file.now releases.old releases.new) }
 {
     match &file.content {
@@ -74,7 +74,7 @@ fn push_judged(
     file: &File,
     env: &Env,
 ) -> Result<(), NoMemory>
-    requires { IsReadable file.now }
+    requires { HasContentWithinLimit file.now }
     ensures { OnOk result (AddsJudged env.now name.now dir.now file.now releases.old releases.new) }
 {
     let judged = judge(alloc, name, &dir.version, &file.content, env)?;

@@ -6,10 +6,10 @@ ghost use Rattle.plan_types.specs.Bytes.{same_text};
 ghost use Rattle.plan_types.specs.Refusal.{Answers, RefusesAt, Settles};
 ghost use Rattle.description.specs.FaultOrder.{is_at};
 ghost use Rattle.outside_folder.specs.Calls.{IsWithin, Leaves};
-ghost use Rattle.index_files.specs.File.{CountsAll, IsReadable, file_found};
+ghost use Rattle.index_files.specs.File.{CountsAll, HasContentWithinLimit, file_found};
 ghost use Rattle.index_files.specs.InTurn.{OnPart, Steps};
 ghost use Rattle.index_files.specs.Sources.{bytes_in};
-ghost use Rattle.index_files.specs.Units.{AreUnitsOf, OfRecord, RecordComes, TakesFound, TakesUnit, is_formed, place_of, unit_id, unit_ids, with_found, with_record, with_unit};
+ghost use Rattle.index_files.specs.Units.{AreUnitsOf, OfRecord, RecordComes, TakesFound, TakesUnit, is_well_formed, place_of, unit_id, unit_ids, with_found, with_record, with_unit};
 
 use crate::file::{File, read_file};
 use crate::totals::{Totals, too_many};
@@ -26,7 +26,7 @@ pub(crate) struct Units {
     pub list: List<Unit>,
     pub ids: IndexSet<Text>,
     ghost named: { ids.keys ≡ unit_ids list },
-    ghost formed: { list_all is_formed list ≡ true },
+    ghost formed: { list_all is_well_formed list ≡ true },
 }
 
 // Explicit, so that it is proved once: a derived one is expanded at each exit.
@@ -83,7 +83,7 @@ impl Units {
     }
 
     fn with_file(self, alloc: Global, file: &File) -> Result<Units, Halt>
-        requires { IsReadable file.now }
+        requires { HasContentWithinLimit file.now }
         ensures { Settles (OnPart (λ units. units.list) (Steps RecordComes with_record self.list file.now)) result }
     {
         match record_in(alloc, &file.content) {
@@ -97,7 +97,7 @@ impl Units {
     }
 
     fn with_found(self, path: &Text, found: Option<UnitRecord>) -> Result<Units, Halt>
-        requires { IfSome found (λ r. (path : List ℕ) → is_formed (record { path = path; record_of = r }) ≡ true) }
+        requires { IfSome found (λ r. (path : List ℕ) → is_well_formed (record { path = path; record_of = r }) ≡ true) }
         ensures { Settles (OnPart (λ units. units.list) (TakesFound self.list path.now found)) result }
     {
         match found {
@@ -107,7 +107,7 @@ impl Units {
     }
 
     fn with_record(self, path: &Text, record_of: UnitRecord) -> Result<Units, Halt>
-        requires { is_formed (record { path = path.now; record_of = record_of }) ≡ true }
+        requires { is_well_formed (record { path = path.now; record_of = record_of }) ≡ true }
         ensures { Settles (OnPart (λ units. units.list) (TakesUnit self.list path.now record_of)) result }
     {
         let unit = Unit::at(path, record_of)?;
@@ -127,7 +127,7 @@ impl Units {
 
     fn with(self, unit: Unit) -> Result<Units, NoMemory>
         requires new { place_of self.list (unit_id unit) ≡ None }
-        requires formed { is_formed unit ≡ true }
+        requires formed { is_well_formed unit ≡ true }
         ensures { IfOk result (λ units. units.list ≡ self.list ++ unit ∷ []) }
     {
         let Units { mut list, mut ids } = self;
@@ -150,7 +150,7 @@ fn record_in(alloc: Global, content: &Content) -> Result<Option<UnitRecord>, Fau
     requires { IsWithin content.now }
     ensures found { IfOk result (λ found. OfRecord (bytes_in content.now) (Ok found)) }
     ensures fault { IfErr result (RefusesAt (λ line cause. OfRecord (bytes_in content.now) (Err (is_at line cause)))) }
-    ensures formed { IfOk result (λ found. IfSome found (λ r. (path : List ℕ) → is_formed (record { path = path; record_of = r }) ≡ true)) }
+    ensures formed { IfOk result (λ found. IfSome found (λ r. (path : List ℕ) → is_well_formed (record { path = path; record_of = r }) ≡ true)) }
 {
     match content {
         Content::Missing => record_of(alloc, &[]),
@@ -166,7 +166,7 @@ fn record_of(alloc: Global, bytes: &[u8]) -> Result<Option<UnitRecord>, Fault>
     requires { length bytes.now ≤ 1048576 }
     ensures found { IfOk result (λ found. OfRecord (Some bytes.now) (Ok found)) }
     ensures fault { IfErr result (RefusesAt (λ line cause. OfRecord (Some bytes.now) (Err (is_at line cause)))) }
-    ensures formed { IfOk result (λ found. IfSome found (λ r. (path : List ℕ) → is_formed (record { path = path; record_of = r }) ≡ true)) }
+    ensures formed { IfOk result (λ found. IfSome found (λ r. (path : List ℕ) → is_well_formed (record { path = path; record_of = r }) ≡ true)) }
 {
     read_record(alloc, bytes)
 }

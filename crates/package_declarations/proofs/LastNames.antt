@@ -2,7 +2,7 @@
 use Rattle.std.proofs.Common.{◌≡◌, ℕ, List, [], ◌∷◌, ◌++◌, ap, ◌∙◌, refl}
 use Rattle.std.specs.Prelude.{Option}
 use Rattle.std.specs.Option.{option_or}
-use Rattle.text_grammar.specs.Last.{last_said}
+use Rattle.text_grammar.specs.Last.{last_given}
 use Rattle.text_grammar.proofs.LastSaid.{last_push}
 use Rattle.section_syntax.specs.declared.part.Head.{Head}
 use Rattle.section_syntax.specs.declared.part.Head.TheVariants as head
@@ -16,4 +16,4 @@ name-more before (head.Version version) = refl
 name-more before (head.BuildType custom) = refl
 
 pub own-name-more : (heads : List HeadField) (field : HeadField) → own_name (heads ++ field ∷ []) ≡ name_behind (own_name heads) field.head
-own-name-more heads field = ap joined (last_push (λ f. name_said f.head) heads field) ∙ name-more (last_said (λ f. name_said f.head) heads) field.head
+own-name-more heads field = ap joined (last_push (λ f. name_said f.head) heads field) ∙ name-more (last_given (λ f. name_said f.head) heads) field.head

@@ -3,8 +3,8 @@ use Rattle.std.proofs.Common.{◌≡◌, ℕ, zero, suc, List, [], ◌∷◌, �
 use Rattle.plan_types.proofs.Tables.{get-front}
 use Rattle.plan_types.specs.declared.condition.Cond.{Cond}
 use Rattle.plan_types.specs.declared.condition.Cond.TheVariants.{And}
-use Rattle.section_syntax.specs.Branch.{all_of, condition, joined, tried_behind}
-use Rattle.section_syntax.specs.Chained.{left_by}
+use Rattle.section_syntax.specs.Branch.{all_of, condition, joined, with_chain}
+use Rattle.section_syntax.specs.Chained.{chain_after}
 use Rattle.section_syntax.specs.declared.branch.Branch.{Branch}
 use Rattle.package_declarations.specs.Gathering.{joined_some}
 use Rattle.package_declarations.specs.Levels.{AreLevels, Grown, IsBranch, IsLevel, IsNumbered, chain_at, innermost, innermost_behind, number_at}
@@ -58,7 +58,7 @@ module _ (conds : List Cond) where
   levels-taken around (suc depth) (level ∷ levels) [] are = absurd are
   levels-taken around (suc depth) (level ∷ levels) (branch ∷ opened) are = (are.0, levels-taken (around ++ branch.condition ∷ []) depth levels opened are.1)
 
-  pub chain-numbered : (around : List Cond) (depth : ℕ) (levels : List Level) (opened : List Branch) → AreLevels conds around levels opened → IsNumbered conds (chain_at levels depth) (left_by (slice_get opened depth))
+  pub chain-numbered : (around : List Cond) (depth : ℕ) (levels : List Level) (opened : List Branch) → AreLevels conds around levels opened → IsNumbered conds (chain_at levels depth) (chain_after (slice_get opened depth))
   chain-numbered around depth [] [] are = tt
   chain-numbered around depth [] (branch ∷ opened) are = absurd are
   chain-numbered around depth (level ∷ levels) [] are = absurd are
@@ -104,11 +104,11 @@ joined-last : (first : Cond) (conds : List Cond) (cond : Cond) → joined first 
 joined-last first [] cond = refl
 joined-last first (next ∷ conds) cond = joined-last (And first next) conds cond
 
-pub all-last : (conds : List Cond) (cond : Cond) → all_of (conds ++ cond ∷ []) ≡ tried_behind (joined_some conds) cond
+pub all-last : (conds : List Cond) (cond : Cond) → all_of (conds ++ cond ∷ []) ≡ with_chain (joined_some conds) cond
 all-last [] cond = refl
 all-last (first ∷ conds) cond = joined-last first conds cond
 
-pub some-last : (conds : List Cond) (cond : Cond) → joined_some (conds ++ cond ∷ []) ≡ Some (tried_behind (joined_some conds) cond)
+pub some-last : (conds : List Cond) (cond : Cond) → joined_some (conds ++ cond ∷ []) ≡ Some (with_chain (joined_some conds) cond)
 some-last [] cond = refl
 some-last (first ∷ conds) cond = ap Some (joined-last first conds cond)
 

@@ -10,7 +10,7 @@ use Rattle.section_syntax.specs.declared.part.SectionKind.TheVariants as kinds
 use Rattle.package_declarations.specs.Components.{component, component_in, components}
 use Rattle.stanza_imports.specs.Imports.{with_imports_replaced}
 use Rattle.stanza_imports.specs.declared.stanzas.Bodies.{Bodies}
-use Rattle.stanza_imports.specs.Bodies.{table, Shown, built_component, shown_in, Stand}
+use Rattle.stanza_imports.specs.Bodies.{table, Shown, built_component, shown_in, AreBodiesOf}
 
 module _ (file : File) where
   abbrev pub shown_component : Shown → Component
@@ -28,7 +28,7 @@ module _ (file : File) where
       (λ i. one section section.kind refl i ++ each sections i)
       ∙ sym (map-append shown_component (shown_in section) (flat_map shown_in sections))
 
-  pub all_shown : (bodies : Bodies) → Stand file.sections bodies →
+  pub all_shown : (bodies : Bodies) → AreBodiesOf file.sections bodies →
       map (λ built. component file (built_component (table bodies.stanzas.bodies.items) built).section built.kind) bodies.built.items ≡ components file
   all_shown bodies stand =
       sym (map-map (built_component (table bodies.stanzas.bodies.items)) shown_component bodies.built.items)

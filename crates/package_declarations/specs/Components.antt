@@ -13,7 +13,7 @@ use Rattle.section_syntax.specs.declared.part.Said.TheVariants as said
 use Rattle.section_syntax.specs.declared.part.Section.{Section}
 use Rattle.section_syntax.specs.declared.part.SectionKind.TheVariants as kinds
 use Rattle.package_declarations.specs.Declarations.{meant}
-use Rattle.text_grammar.specs.Last.{last_said}
+use Rattle.text_grammar.specs.Last.{last_given}
 use Rattle.stanza_imports.specs.Imports.{with_imports_replaced}
 use Rattle.stanza_imports.specs.Parts.{deps_said, is_named_library}
 
@@ -60,7 +60,7 @@ visibility_of part = elim part.branches [ [] ↦ visibility_said part.said | bra
 
 -- a library with a name of its own is private unless its last `visibility` is public
 abbrev pub is_public : List SectionPart → Bool
-is_public parts = unwrap_or (last_said visibility_of parts) false
+is_public parts = unwrap_or (last_given visibility_of parts) false
 
 -- the component of a section
 abbrev pub component : File → Section → CompKind → Component

@@ -22,7 +22,7 @@ use Rattle.section_syntax.specs.declared.part.SectionKind.TheVariants as kinds
 use Rattle.package_declarations.specs.declared.declarations.Meaning.{Meaning}
 use Rattle.package_declarations.specs.declared.declarations.Meaning.TheVariants.{Other, Own, OwnLibrary}
 use Rattle.plan_types.specs.Bytes.{same_text}
-use Rattle.text_grammar.specs.Last.{last_said}
+use Rattle.text_grammar.specs.Last.{last_given}
 use Rattle.plan_types.specs.Packages.{library_name, is_main}
 
 -- whether a section is a library
@@ -76,7 +76,7 @@ joined (Some x) = x
 
 -- the name in the last `name` field, none if it is ill-formed
 abbrev pub own_name : List HeadField → Option (List ℕ)
-own_name heads = joined (last_said (λ field. name_said field.head) heads)
+own_name heads = joined (last_given (λ field. name_said field.head) heads)
 
 -- the name after one more field
 abbrev pub name_behind : Option (List ℕ) → Head → Option (List ℕ)

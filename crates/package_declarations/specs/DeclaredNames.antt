@@ -12,7 +12,7 @@ shown None = None
 shown (Some name) = Some name.now
 
 -- the kept cabal-version and names are those of the file
-pub record Tells (declared : Declared) (file : File) : Type 0 where
+pub record RepresentsNames (declared : Declared) (file : File) : Type 0 where
   pub spec : declared.spec ≡ file.spec
   pub name : shown declared.name ≡ own_name file.heads
   pub flags : (name : List ℕ) → has declared.flags name ≡ declares is_flag file.sections name

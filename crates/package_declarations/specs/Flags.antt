@@ -8,7 +8,7 @@ use Rattle.section_syntax.specs.declared.part.Said.{Said}
 use Rattle.section_syntax.specs.declared.part.Said.TheVariants as said
 use Rattle.section_syntax.specs.declared.part.Section.{Section}
 use Rattle.package_declarations.specs.Declarations.{is_flag}
-use Rattle.text_grammar.specs.Last.{last_said}
+use Rattle.text_grammar.specs.Last.{last_given}
 
 -- the default that a part gives to a flag
 abbrev pub default_said : Said → Option Bool
@@ -39,8 +39,8 @@ abbrev pub flag_of : Section → FlagDecl
 flag_of section = record {
   line = section.line;
   name = section.name;
-  default = unwrap_or (last_said (λ part. default_said part.said) section.parts) true;
-  manual = unwrap_or (last_said (λ part. manual_said part.said) section.parts) false;
+  default = unwrap_or (last_given (λ part. default_said part.said) section.parts) true;
+  manual = unwrap_or (last_given (λ part. manual_said part.said) section.parts) false;
 }
 
 -- the flags in file order

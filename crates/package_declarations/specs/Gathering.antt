@@ -41,7 +41,7 @@ abbrev pub place_in : List Branch → SectionPart → Cond
 place_in opened part = all_of (map condition (take (length part.branches) opened))
 
 -- the state represents these branches, open or closed last, and these bars
-pub record Stands (gathered : Gathered) (opened : List Branch) (barred : List Cond) : Type 0 where
+pub record RepresentsState (gathered : Gathered) (opened : List Branch) (barred : List Cond) : Type 0 where
   pub root : slice_get gathered.conds 0 ≡ Some Always
   pub levels : AreLevels gathered.conds [] gathered.levels opened
   pub groups : GroupsTabled gathered.conds gathered.groups

@@ -1,7 +1,7 @@
 -- Branches by the numbers of their conditions in a table.
 use Rattle.std.specs.Prelude.{◌≡◌, ℕ, List, [], ◌∷◌, ◌++◌, Option, None, Some, slice_get, unwrap_or}
 use Rattle.plan_types.specs.declared.condition.Cond.{Cond}
-use Rattle.section_syntax.specs.Branch.{all_of, tried_behind}
+use Rattle.section_syntax.specs.Branch.{all_of, with_chain}
 use Rattle.section_syntax.specs.declared.branch.Branch.{Branch}
 use Rattle.package_declarations.specs.declared.branches.Level.{Level}
 
@@ -17,9 +17,9 @@ IsNumbered conds (Some number) None = ⊥
 IsNumbered conds (Some number) (Some cond) = slice_get conds number ≡ Some cond
 
 -- the number of `left && cond`, or of `cond` alone, in the grown table
-abbrev pub IsBehind : List Cond → List Cond → Option ℕ → ℕ → ℕ → Type 0
-IsBehind before after front last number = (left : Option Cond) (cond : Cond)
-    → IsNumbered before front left → slice_get before last ≡ Some cond → slice_get after number ≡ Some (tried_behind left cond)
+abbrev pub IsConjunction : List Cond → List Cond → Option ℕ → ℕ → ℕ → Type 0
+IsConjunction before after front last number = (left : Option Cond) (cond : Cond)
+    → IsNumbered before front left → slice_get before last ≡ Some cond → slice_get after number ≡ Some (with_chain left cond)
 
 -- a level has the condition and chain of a branch, without those around it
 pub record IsBranch (conds : List Cond) (level : Level) (branch : Branch) : Type 0 where

@@ -14,7 +14,7 @@ use Rattle.section_syntax.specs.declared.part.Said.TheVariants as said
 use Rattle.section_syntax.specs.declared.part.Section.{Section}
 use Rattle.section_syntax.specs.declared.part.SectionKind.{SectionKind}
 use Rattle.section_syntax.specs.declared.part.SectionKind.TheVariants as kinds
-use Rattle.text_grammar.specs.Last.{last_said}
+use Rattle.text_grammar.specs.Last.{last_given}
 use Rattle.stanza_imports.specs.Parts.{deps_said}
 
 -- whether a section is for the setup script
@@ -32,7 +32,7 @@ custom_said (head.BuildType custom) = custom
 
 -- whether the package has its own setup script: by the last build type, else by whether there is a `custom-setup`
 abbrev pub is_custom : File → Bool
-is_custom file = unwrap_or (last_said (λ field. custom_said field.head) file.heads) (list_any (λ section. is_setup section.kind) file.sections)
+is_custom file = unwrap_or (last_given (λ field. custom_said field.head) file.heads) (list_any (λ section. is_setup section.kind) file.sections)
 
 -- whether a part is a field of dependencies
 abbrev pub is_dependency : Said → Bool

@@ -4,10 +4,10 @@ ghost use Rattle.std.specs.Prelude.{◌≡◌, List, [], ◌∷◌, ◌++◌, Op
 ghost use Rattle.plan_types.specs.Conditions.{cond_of};
 ghost use Rattle.plan_types.specs.declared.condition.Cond.{Cond};
 ghost use Rattle.plan_types.specs.declared.condition.Cond.TheVariants.{Always};
-ghost use Rattle.section_syntax.specs.Branch.{branch_of, last, or_never, tried};
-ghost use Rattle.section_syntax.specs.Chained.{begun, left_by};
+ghost use Rattle.section_syntax.specs.Branch.{branch_of, last, or_never, if_branch};
+ghost use Rattle.section_syntax.specs.Chained.{begun, chain_after};
 ghost use Rattle.section_syntax.specs.declared.branch.Branch.{Branch};
-ghost use Rattle.package_declarations.specs.Levels.{AreLevels, Grown, IsBehind, IsBranch, IsNext, IsNumbered, chain_at, innermost, number_at};
+ghost use Rattle.package_declarations.specs.Levels.{AreLevels, Grown, IsConjunction, IsBranch, IsNext, IsNumbered, chain_at, innermost, number_at};
 
 use plan_types::{Cause, Cond, Conditions, Guard, List, NoMemory, Row};
 use section_syntax::{BranchWord, Said, or_never};
@@ -61,7 +61,7 @@ pub(crate) fn enter(
 ) -> Result<(), NoMemory>
     ensures grown { OnOk result (Grown conds.old conds.new) }
     ensures levels { OnOk result ((opened : List Branch) (before : Option Branch) → AreLevels conds.old [] levels.old opened
-        → IsNumbered conds.old chain (left_by before) → AreLevels conds.new [] levels.new (opened ++ begun said.now before)) }
+        → IsNumbered conds.old chain (chain_after before) → AreLevels conds.new [] levels.new (opened ++ begun said.now before)) }
 {
     match said {
         Said::Branch {
@@ -96,7 +96,7 @@ fn push_branch(
         → IsBranch conds.old branch one → AreLevels conds.new [] levels.new (opened ++ one ∷ [])) }
 {
     let around = innermost(levels.as_slice());
-    let taken = behind(alloc, conds, around, branch.taken)?;
+    let taken = conjunction(alloc, conds, around, branch.taken)?;
     levels.push(Level {
         taken,
         chain: branch.chain,
@@ -115,26 +115,26 @@ fn branch_of(
     ensures branch { IfOk result (IsNext conds.old conds.new chain (λ left. branch_of word left own.now)) }
 {
     match word {
-        BranchWord::If => tried(alloc, conds, None, own),
-        BranchWord::Elif => tried(alloc, conds, chain, own),
+        BranchWord::If => if_branch(alloc, conds, None, own),
+        BranchWord::Elif => if_branch(alloc, conds, chain, own),
         BranchWord::Else => last(alloc, conds, chain),
     }
 }
 
-fn tried(
+fn if_branch(
     alloc: Global,
     conds: &mut Conditions,
     chain: Option<usize>,
     own: &Result<Guard, Cause>,
 ) -> Result<Level, NoMemory>
     ensures grown { OnOk result (Grown conds.old conds.new) }
-    ensures branch { IfOk result (IsNext conds.old conds.new chain (λ left. tried left (or_never own.now))) }
+    ensures branch { IfOk result (IsNext conds.old conds.new chain (λ left. if_branch left (or_never own.now))) }
 {
     let own = or_never(alloc, own)?;
     let own = added(alloc, conds, Row::Own(own))?;
     let other = added(alloc, conds, Row::Negated(own))?;
-    let taken = behind(alloc, conds, chain, own)?;
-    let left = behind(alloc, conds, chain, other)?;
+    let taken = conjunction(alloc, conds, chain, own)?;
+    let left = conjunction(alloc, conds, chain, other)?;
     Ok(Level {
         taken,
         chain: Some(left),
@@ -153,14 +153,14 @@ fn last(alloc: Global, conds: &mut Conditions, chain: Option<usize>) -> Result<L
 }
 
 /// The number of `front && last`, or of `last` alone.
-pub(crate) fn behind(
+pub(crate) fn conjunction(
     alloc: Global,
     conds: &mut Conditions,
     front: Option<usize>,
     last: usize,
 ) -> Result<usize, NoMemory>
     ensures grown { OnOk result (Grown conds.old conds.new) }
-    ensures number { IfOk result (IsBehind conds.old conds.new front last) }
+    ensures number { IfOk result (IsConjunction conds.old conds.new front last) }
 {
     match front {
         Some(front) => added(alloc, conds, Row::Both(front, last)),

@@ -6,10 +6,10 @@ ghost use Rattle.section_syntax.specs.declared.branch.Branch.{Branch};
 ghost use Rattle.section_syntax.specs.declared.part.File.{File};
 ghost use Rattle.section_syntax.specs.declared.part.Section.{Section};
 ghost use Rattle.package_declarations.specs.Components.{barrier, component, components, guarded, is_public, visibility_of};
-ghost use Rattle.package_declarations.specs.Gathering.{Stands, deps_in};
-ghost use Rattle.section_syntax.specs.Chained.{StandInBranches};
-ghost use Rattle.stanza_imports.specs.Bodies.{table, built_component, placed_part, Stand};
-ghost use Rattle.package_declarations.specs.DeclaredNames.{Tells};
+ghost use Rattle.package_declarations.specs.Gathering.{RepresentsState, deps_in};
+ghost use Rattle.section_syntax.specs.Chained.{AreSectionParts};
+ghost use Rattle.stanza_imports.specs.Bodies.{table, built_component, placed_part, AreBodiesOf};
+ghost use Rattle.package_declarations.specs.DeclaredNames.{RepresentsNames};
 
 use crate::declarations::Declared;
 use crate::gathered::Gathered;
@@ -24,8 +24,8 @@ pub fn components(
     declared: &Declared,
     bodies: &Bodies,
 ) -> Result<List<Component>, NoMemory>
-    ensures { IfOk result (λ found. (file : File) → Tells declared.now file → Stand file.sections bodies.now
-        → All (λ section. StandInBranches section.parts) file.sections → found ≡ components file) }
+    ensures { IfOk result (λ found. (file : File) → RepresentsNames declared.now file → AreBodiesOf file.sections bodies.now
+        → All (λ section. AreSectionParts section.parts) file.sections → found ≡ components file) }
 {
     let mut components = List::new(alloc);
     for one in bodies.built.as_slice() {
@@ -40,8 +40,8 @@ fn component<'a>(
     stanzas: &Stanzas<'a>,
     built: &Built<'a>,
 ) -> Result<Component, NoMemory>
-    ensures { IfOk result (λ found. (file : File) → Tells declared.now file
-        → StandInBranches (built_component (table stanzas.now.bodies.items) built.now).section.parts
+    ensures { IfOk result (λ found. (file : File) → RepresentsNames declared.now file
+        → AreSectionParts (built_component (table stanzas.now.bodies.items) built.now).section.parts
         → found ≡ component file (built_component (table stanzas.now.bodies.items) built.now).section built.now.kind) }
 {
     let placed = stanzas.replaced(alloc, &built.body)?;
@@ -82,10 +82,10 @@ fn visibility(placed: &Placed, public: bool) -> bool
 
 // Goes through the parts in file order.
 fn gathered(alloc: Global, declared: &Declared, placed: &[Placed]) -> Result<Gathered, NoMemory>
-    ensures stands { IfOk result (λ gathered. (opened : List Branch) × (barred : List Cond) × Stands gathered opened barred) }
-    ensures barred { IfOk result (λ gathered. StandInBranches (map placed_part placed.now)
-        → (opened : List Branch) × Stands gathered opened (flat_map barrier (map placed_part placed.now))) }
-    ensures deps { IfOk result (λ gathered. (file : File) → Tells declared.now file → StandInBranches (map placed_part placed.now)
+    ensures stands { IfOk result (λ gathered. (opened : List Branch) × (barred : List Cond) × RepresentsState gathered opened barred) }
+    ensures barred { IfOk result (λ gathered. AreSectionParts (map placed_part placed.now)
+        → (opened : List Branch) × RepresentsState gathered opened (flat_map barrier (map placed_part placed.now))) }
+    ensures deps { IfOk result (λ gathered. (file : File) → RepresentsNames declared.now file → AreSectionParts (map placed_part placed.now)
         → deps_in gathered.groups ≡ flat_map (guarded file) (map placed_part placed.now)) }
 {
     let mut gathered = Gathered::new(alloc)?;

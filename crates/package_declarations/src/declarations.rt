@@ -9,7 +9,7 @@ ghost use Rattle.package_declarations.specs.Declarations.{declares, has_flags, i
 ghost use Rattle.stanza_imports.specs.Names.{has};
 ghost use Rattle.plan_types.specs.Bytes.{same_text};
 ghost use Rattle.plan_types.specs.Packages.{library_name, is_main};
-ghost use Rattle.package_declarations.specs.DeclaredNames.{shown, Tells};
+ghost use Rattle.package_declarations.specs.DeclaredNames.{shown, RepresentsNames};
 ghost use Rattle.package_declarations.specs.AskedSections.{is_of};
 
 use plan_types::{CompKind, Cond, Dep, DepKind, LibName, List, NoMemory, Spec, Text};
@@ -53,7 +53,7 @@ pub enum Meaning {
 
 impl<'a> Declared<'a> {
     pub fn of(alloc: Global, file: &'a File) -> Result<Declared<'a>, NoMemory>
-        ensures { IfOk result (λ declared. Tells declared file.now) }
+        ensures { IfOk result (λ declared. RepresentsNames declared file.now) }
     {
         let sections = file.sections.as_slice();
         Ok(Declared {
@@ -66,7 +66,7 @@ impl<'a> Declared<'a> {
     }
 
     fn has_library(&self, lib: &LibName) -> bool
-        ensures { (file : File) → Tells self.now file → result ≡ declares is_library file.sections (library_name lib.now) }
+        ensures { (file : File) → RepresentsNames self.now file → result ≡ declares is_library file.sections (library_name lib.now) }
     {
         match lib {
             LibName::Main => self.libraries.has(""),
@@ -75,7 +75,7 @@ impl<'a> Declared<'a> {
     }
 
     fn meaning_of(&self, dep: &Dep) -> Meaning
-        ensures { (file : File) → Tells self.now file → result ≡ meaning file dep.now }
+        ensures { (file : File) → RepresentsNames self.now file → result ≡ meaning file dep.now }
     {
         let own = self.is_own(&dep.package);
         let bare = is_bare(self.spec, dep.libs.as_slice());
@@ -84,7 +84,7 @@ impl<'a> Declared<'a> {
     }
 
     pub fn is_own(&self, name: &Text) -> bool
-        ensures { (file : File) → Tells self.now file → result ≡ is_own (own_name file.heads) name.now }
+        ensures { (file : File) → RepresentsNames self.now file → result ≡ is_own (own_name file.heads) name.now }
     {
         match self.name {
             Some(own) => own == name,
@@ -94,7 +94,7 @@ impl<'a> Declared<'a> {
 
     /// Whether all components of the own package that the dependency names are declared.
     pub fn is_known(&self, dep: &Dep) -> bool
-        ensures { (file : File) → Tells self.now file → result ≡ is_known file dep.now }
+        ensures { (file : File) → RepresentsNames self.now file → result ≡ is_known file dep.now }
     {
         let libraries = self.has_libraries(dep.libs.as_slice());
         let executable = self.executables.has(dep.exe.as_str());
@@ -102,7 +102,7 @@ impl<'a> Declared<'a> {
     }
 
     fn has_libraries(&self, libs: &[LibName]) -> bool
-        ensures { (file : File) → Tells self.now file
+        ensures { (file : File) → RepresentsNames self.now file
             → result ≡ list_all (λ l. declares is_library file.sections (library_name l)) libs.now }
     {
         for lib in libs {
@@ -115,7 +115,7 @@ impl<'a> Declared<'a> {
 
     /// Whether each flag that a condition names is declared.
     pub fn has_flags(&self, cond: &Cond) -> bool
-        ensures { (file : File) → Tells self.now file → result ≡ has_flags file.sections cond.now }
+        ensures { (file : File) → RepresentsNames self.now file → result ≡ has_flags file.sections cond.now }
     {
         let mut left = cond;
         loop {
@@ -145,7 +145,7 @@ impl<'a> Declared<'a> {
 
     /// A copy of the dependency with its meaning resolved.
     pub fn meant(&self, alloc: Global, dep: &Dep) -> Result<Dep, NoMemory>
-        ensures { IfOk result (λ found. (file : File) → Tells self.now file → found ≡ meant file dep.now) }
+        ensures { IfOk result (λ found. (file : File) → RepresentsNames self.now file → found ≡ meant file dep.now) }
     {
         let meaning = self.meaning_of(dep);
         let found = meant_as(alloc, meaning, self.name, dep)?;

@@ -3,7 +3,7 @@
 ghost use Rattle.std.specs.Prelude.{◌≡◌, true, false, unwrap_or, IfOk, OnOk};
 ghost use Rattle.std.specs.List.Sorted.{IsPermutation, IsSortedBy, IsStableBy};
 ghost use Rattle.package_declarations.specs.Flags.{AreFlags, declared_flags, default_said, flag_of, manual_said, name_before};
-ghost use Rattle.text_grammar.specs.Last.{last_said};
+ghost use Rattle.text_grammar.specs.Last.{last_given};
 
 use plan_types::{FlagDecl, List, NoMemory};
 use section_syntax::{Said, Section, SectionKind, SectionPart};
@@ -54,7 +54,7 @@ fn flag(section: &Section) -> Result<FlagDecl, NoMemory>
 }
 
 fn is_default(parts: &[SectionPart]) -> bool
-    ensures { result ≡ unwrap_or (last_said (λ part. default_said part.said) parts.now) true }
+    ensures { result ≡ unwrap_or (last_given (λ part. default_said part.said) parts.now) true }
 {
     let mut default = true;
     for part in parts {
@@ -73,7 +73,7 @@ fn default_said(said: &Said, unsaid: bool) -> bool
 }
 
 fn is_manual(parts: &[SectionPart]) -> bool
-    ensures { result ≡ unwrap_or (last_said (λ part. manual_said part.said) parts.now) false }
+    ensures { result ≡ unwrap_or (last_given (λ part. manual_said part.said) parts.now) false }
 {
     let mut manual = false;
     for part in parts {

@@ -9,13 +9,13 @@ ghost use Rattle.section_syntax.specs.declared.branch.Branch.{Branch};
 ghost use Rattle.section_syntax.specs.declared.part.File.{File};
 ghost use Rattle.package_declarations.specs.Components.{unbuildable_said};
 ghost use Rattle.package_declarations.specs.Declarations.{meant};
-ghost use Rattle.package_declarations.specs.DeclaredNames.{Tells};
-ghost use Rattle.package_declarations.specs.Gathering.{GroupsTabled, Stands, bars, deps_in, joined_some, place_in};
+ghost use Rattle.package_declarations.specs.DeclaredNames.{RepresentsNames};
+ghost use Rattle.package_declarations.specs.Gathering.{GroupsTabled, RepresentsState, bars, deps_in, joined_some, place_in};
 ghost use Rattle.package_declarations.specs.Levels.{Grown, IsNumbered};
 ghost use Rattle.stanza_imports.specs.Bodies.{placed_part};
 ghost use Rattle.stanza_imports.specs.Parts.{deps_said};
 
-use crate::branches::{Level, added, behind, enter, leave, number_at};
+use crate::branches::{Level, added, conjunction, enter, leave, number_at};
 use crate::declarations::Declared;
 use plan_types::{
     Cond, Conditions, Dep, DepGroup, Guard, GuardedDeps, List, NoMemory, Row, Shared, TabledCond,
@@ -58,7 +58,7 @@ pub struct Groups {
 impl Gathered {
     /// The state before the first part.
     pub fn new(alloc: Global) -> Result<Gathered, NoMemory>
-        ensures stands { IfOk result (λ gathered. Stands gathered [] []) }
+        ensures stands { IfOk result (λ gathered. RepresentsState gathered [] []) }
         ensures deps { IfOk result (λ gathered. deps_in gathered.groups ≡ []) }
     {
         let mut conds = Conditions::new(alloc);
@@ -82,11 +82,11 @@ impl Gathered {
         declared: &Declared,
         placed: &Placed,
     ) -> Result<Gathered, NoMemory>
-        ensures stands { IfOk result (λ after. (opened : List Branch) (barred : List Cond) → Stands self opened barred
-            → Stands after (branches_behind opened (placed_part placed.now))
+        ensures stands { IfOk result (λ after. (opened : List Branch) (barred : List Cond) → RepresentsState self opened barred
+            → RepresentsState after (branches_behind opened (placed_part placed.now))
             (barred ++ bars (placed_part placed.now).said (place_in opened (placed_part placed.now)))) }
-        ensures deps { IfOk result (λ after. (file : File) → Tells declared.now file → (opened : List Branch) (barred : List Cond)
-            → Stands self opened barred → deps_in after.groups ≡ deps_in self.groups
+        ensures deps { IfOk result (λ after. (file : File) → RepresentsNames declared.now file → (opened : List Branch) (barred : List Cond)
+            → RepresentsState self opened barred → deps_in after.groups ≡ deps_in self.groups
             ++ map (under (place_in opened (placed_part placed.now))) (map (meant file) (deps_said (placed_part placed.now).said))) }
     {
         let Gathered {
@@ -112,8 +112,8 @@ impl Gathered {
 
     /// The condition of being buildable, and all dependencies.
     pub fn into_parts(self, alloc: Global) -> Result<(TabledCond, GuardedDeps), NoMemory>
-        requires { (opened : List Branch) × (barred : List Cond) × Stands self opened barred }
-        ensures buildable { IfOk result (λ parts. (opened : List Branch) (barred : List Cond) → Stands self opened barred
+        requires { (opened : List Branch) × (barred : List Cond) × RepresentsState self opened barred }
+        ensures buildable { IfOk result (λ parts. (opened : List Branch) (barred : List Cond) → RepresentsState self opened barred
             → parts.0 ≡ all_of barred) }
         ensures deps { IfOk result (λ parts. parts.1 ≡ deps_in self.groups) }
     {
@@ -200,7 +200,7 @@ fn with_bar(
         return Ok(barred);
     }
     let bar = added(alloc, conds, Row::Negated(here))?;
-    let free = behind(alloc, conds, barred, bar)?;
+    let free = conjunction(alloc, conds, barred, bar)?;
     Ok(Some(free))
 }
 
@@ -225,7 +225,7 @@ fn asked(said: &Said) -> &[Dep]
 
 // The dependencies with their meanings resolved.
 fn meant(alloc: Global, declared: &Declared, found: &[Dep]) -> Result<List<Shared<Dep>>, NoMemory>
-    ensures { IfOk result (λ deps. (file : File) → Tells declared.now file → deps ≡ map (meant file) found.now) }
+    ensures { IfOk result (λ deps. (file : File) → RepresentsNames declared.now file → deps ≡ map (meant file) found.now) }
 {
     let mut deps = List::with_room(alloc, found.len())?;
     for dep in found {

@@ -2,7 +2,7 @@
 
 ghost use Rattle.std.specs.Prelude.{◌≡◌, ◌++◌, [], ◌∷◌, ◌&&◌, flat_map, unwrap_or, codes, IfOk, OnOk};
 ghost use Rattle.std.specs.List.{list_any};
-ghost use Rattle.text_grammar.specs.Last.{last_said};
+ghost use Rattle.text_grammar.specs.Last.{last_given};
 ghost use Rattle.package_declarations.specs.Setup.{any_version, custom_said, is_custom, is_dependency, is_setup, setup, setup_deps, setup_parts};
 ghost use Rattle.stanza_imports.specs.Parts.{deps_said};
 
@@ -31,7 +31,7 @@ fn is_setup(kind: SectionKind) -> bool
 }
 
 fn last_build_type(heads: &[HeadField], unsaid: bool) -> bool
-    ensures { result ≡ unwrap_or (last_said (λ field. custom_said field.head) heads.now) unsaid }
+    ensures { result ≡ unwrap_or (last_given (λ field. custom_said field.head) heads.now) unsaid }
 {
     let mut custom = unsaid;
     for field in heads {

@@ -9,7 +9,7 @@ use Rattle.plan_types.specs.declared.index.Package.{Package}
 use Rattle.flatten.specs.Sound.{IsEntry, asked_packages, has_package, has_units, instance_of}
 use Rattle.outside_folder.specs.Files.{Bytes}
 use Rattle.cabal_file.specs.declared.source.Source.{Source}
-use Rattle.index_files.specs.Units.{IsFormed, needed_names, unit_name}
+use Rattle.index_files.specs.Units.{IsWellFormed, needed_names, unit_name}
 use Rattle.index_files.specs.declared.unit.Unit.{Unit}
 use Rattle.index_assembly.specs.Entries.{source_entry, unit_entry}
 use Rattle.package_index.proofs.Sources.{IsWell}
@@ -28,7 +28,7 @@ module _ (env : Env) (index : Index) where
     body = record { description = well.described; packages = asked; none_beyond = well.none_beyond; demands = well.demands; offers = well.offers };
   }
 
-  pub unit-is : (name : Bytes) (units : List Unit) (u : Unit) → IsFormed u → unit_name u ≡ name → has_units index u.record_of.depends (needed_names units u) ≡ true
+  pub unit-is : (name : Bytes) (units : List Unit) (u : Unit) → IsWellFormed u → unit_name u ≡ name → has_units index u.record_of.depends (needed_names units u) ≡ true
       → IsEntryOf false name (unit_entry units u)
   unit-is name units u formed named has p is names = record {
     instance_is = ap (λ l. instance_of l (body.Installed u.record_of (needed_names units u))) (sym is);

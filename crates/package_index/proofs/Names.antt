@@ -15,7 +15,7 @@ use Rattle.index_files.specs.Locals.{local_name, local_names}
 use Rattle.index_files.specs.Names.{is_listed}
 use Rattle.index_files.specs.Releases.{asked_by, asked_in}
 use Rattle.index_files.specs.Steps.{is_given}
-use Rattle.index_files.specs.Units.{IsFormed, known_name, name_at, needed_among, needed_names, place_of, unit_name}
+use Rattle.index_files.specs.Units.{IsWellFormed, known_name, name_at, needed_among, needed_names, place_of, unit_name}
 use Rattle.index_files.specs.declared.closure.FoundName.{FoundName}
 use Rattle.index_files.specs.declared.local.Local.{Local}
 use Rattle.index_files.specs.declared.release.Judged.{Judged}
@@ -48,12 +48,12 @@ asked-formed env (Some local) well = each-listed is_package_name (asked_packages
 
 -- ---- needs of units
 
-module _ (units : List Unit) (formed : AllByRecursion IsFormed units) where
+module _ (units : List Unit) (formed : AllByRecursion IsWellFormed units) where
   at-formed : (place : ℕ) → AllByRecursion HasForm (name_at units place)
   at-formed place =
       elim (slice_get units place) as (λ (o : Option Unit). slice_get units place ≡ o → AllByRecursion HasForm (elim o as (λ o. List Bytes) [ None ↦ [] | Some u ↦ unit_name u ∷ [] ])) [
         | None ↦ λ e. tt
-        | Some u ↦ λ e. (IsFormed.name (each-at IsFormed units place u formed e), tt)
+        | Some u ↦ λ e. (IsWellFormed.name (each-at IsWellFormed units place u formed e), tt)
       ] refl
 
   known-formed : (id : Bytes) → AllByRecursion HasForm (known_name units id)
@@ -88,7 +88,7 @@ releases-formed env name releases good =
 
 -- ---- all names
 
-module _ (ground : Ground) (locals : AllByRecursion (λ l. IsWell ground.env l.source) ground.locals) (units : AllByRecursion IsFormed ground.units) where
+module _ (ground : Ground) (locals : AllByRecursion (λ l. IsWell ground.env l.source) ground.locals) (units : AllByRecursion IsWellFormed ground.units) where
   abbrev IsGoodFound : FoundName → Type 0
   IsGoodFound f = AllByRecursion (λ r. IsReleaseOf ground.env f.name r.judged) f.releases
 

@@ -15,7 +15,7 @@ use Rattle.outside_folder.specs.Files.{Bytes}
 use Rattle.index_files.specs.Closure.{Ground, asked_locally, mentioned, roots}
 use Rattle.index_files.specs.Locals.{local_names}
 use Rattle.index_files.specs.Names.{is_listed}
-use Rattle.index_files.specs.Readings.{HaveForm}
+use Rattle.index_files.specs.Readings.{AreWellFormed}
 use Rattle.index_files.specs.Releases.{asked_in}
 use Rattle.index_files.specs.Steps.{AreJudged, is_given}
 use Rattle.index_files.specs.Units.{needed_by}
@@ -68,7 +68,7 @@ module _ (extra : List Named) (readings : Readings) (index : Index) (made : IsIn
       (each-any (λ f. (of f).extra ≡ is_extra extra (of f).name) readings.found
       (λ f. found-extra extra readings.locals readings.units made.lacking f ∙ ap (is_extra extra) (sym (found-name extra readings.locals readings.units made.lacking f))))
 
-  module _ (env : Env) (places : Places) (form : HaveForm env places extra readings) where
+  module _ (env : Env) (places : Places) (form : AreWellFormed env places extra readings) where
     abbrev ground : Ground
     ground = record { env = env; places = places; locals = readings.locals; units = readings.units; extra = extra }
 

@@ -10,7 +10,7 @@ use Rattle.description.specs.Description.{Describes}
 use Rattle.description.specs.declared.fault_order.At.{At}
 use Rattle.outside_folder.specs.declared.calls.Content.{Content}
 use Rattle.outside_folder.specs.Files.{Bytes}
-use Rattle.flatten.specs.Demands.{demands_of, first_beyond}
+use Rattle.flatten.specs.Demands.{demands_of, first_with_too_many_paths}
 use Rattle.flatten.specs.Exposure.{exposed}
 use Rattle.flatten.specs.Sound.{IsDescription, asked_packages}
 use Rattle.cabal_file.specs.Source.{OfDescription, source_of, unless_beyond}
@@ -29,7 +29,7 @@ pub record IsWell (env : Env) (source : Source) : Type 0 where
   pub name : is_package_name source.description.name ≡ true
   pub version : is_version source.description.version.parts ≡ true
   pub asked : list_all is_package_name (asked_packages source.description) ≡ true
-  pub none_beyond : first_beyond env source.description ≡ None
+  pub none_beyond : first_with_too_many_paths env source.description ≡ None
   pub demands : source.flat ≡ demands_of env source.description
   pub offers : source.exposed ≡ exposed env source.description
 
@@ -40,7 +40,7 @@ not-err : {A B G : Type 0} (a : A) (b : B) → ◌≡◌ {A = Result A B} (Ok a)
 not-err a b e = absurd (cc e)
 
 module _ (laws : AreDescribed) (env : Env) where
-  of-paths : (items : List Element) (digest : List ℕ) (d : Description) (source : Source) (beyond : Option ℕ) → first_beyond env d ≡ beyond → Describes items digest (Ok d)
+  of-paths : (items : List Element) (digest : List ℕ) (d : Description) (source : Source) (beyond : Option ℕ) → first_with_too_many_paths env d ≡ beyond → Describes items digest (Ok d)
       → ◌≡◌ {A = Result Source At} (Ok source) (unless_beyond beyond (source_of env d)) → IsWell env source
   of-paths items digest d source None within describes is =
       subst (IsWell env) (sym (same-ok source (source_of env d) is)) (record {
@@ -55,7 +55,7 @@ module _ (laws : AreDescribed) (env : Env) where
   of-paths items digest d source (Some line) within describes is = not-err source _ is
 
   of-described : (items : List Element) (digest : List ℕ) (described : Result Description At) (source : Source) → Describes items digest described → OfDescription env described (Ok source) → IsWell env source
-  of-described items digest (Ok d) source describes is = of-paths items digest d source (first_beyond env d) refl describes is
+  of-described items digest (Ok d) source describes is = of-paths items digest d source (first_with_too_many_paths env d) refl describes is
   of-described items digest (Err at) source describes is = not-err source at is
 
   of-bytes : (bytes : Option Bytes) (source : Source) → OfBytes env bytes (Ok source) → IsWell env source

@@ -8,7 +8,7 @@ use Rattle.plan_types.specs.declared.index.Entry.{Entry}
 use Rattle.plan_types.specs.declared.index.Index.{Index}
 use Rattle.flatten.specs.Sound.{has_unit, unit_order}
 use Rattle.outside_folder.specs.Files.{Bytes}
-use Rattle.index_files.specs.Units.{IsFormed, needed_by, needed_names, unit_id, unit_ids, unit_name}
+use Rattle.index_files.specs.Units.{IsWellFormed, needed_by, needed_names, unit_id, unit_ids, unit_name}
 use Rattle.index_files.specs.declared.unit.Unit.{Unit}
 use Rattle.index_assembly.specs.Entries.{entries_named, is_unit_below, unit_entries, unit_entry, unmarked}
 use Rattle.index_assembly.specs.Lacks.{AreLacking}
@@ -69,12 +69,12 @@ module _ (units : List Unit) (lacking : List Bool) (name : Bytes) where
         let needed : Unit → List Bytes = λ u. if same_text (unit_name u) name then needed_names units u else [] in
         each-then (λ u. AllByRecursion Listed (needed u)) IsNeeding units (λ u h e. subst (λ b. AllByRecursion Listed (if b then needed_names units u else [])) e h) (each-of-flat Listed needed units all)
 
-    module _ (env : Env) (index : Index) (lacks : AreLacking units lacking) (formed : AllByRecursion IsFormed units)
+    module _ (env : Env) (index : Index) (lacks : AreLacking units lacking) (formed : AllByRecursion IsWellFormed units)
         (know : (id : Bytes) (had : IsHad units lacking id) → listed (unit_name had.u) ≡ true → has_unit index id (unit_name had.u) ≡ true) where
       one-unit : AllByRecursion IsNeeding units → (i : ℕ) (u : Unit) → slice_get units i ≡ Some u → IsUnmarked lacking i → same_text (unit_name u) name ≡ true → IsEntryOf env index false name (unit_entry units u)
       one-unit needing i u at clear is =
           let all = all-listed listed (needed_names units u) (each-at IsNeeding units i u needing at is) in
-          unit-is env index name units u (each-at IsFormed units i u formed at) ((bytes_decides (unit_name u) name).0 is)
+          unit-is env index name units u (each-at IsWellFormed units i u formed at) ((bytes_decides (unit_name u) name).0 is)
           (know-all units lacking index listed know u.record_of.depends (needs-had units lacking lacks i u at clear) all)
 
       pub each-unit : AllByRecursion Listed (needed_by units name) → AllByRecursion (IsEntryOf env index false name) sorted

@@ -5,7 +5,7 @@ use Rattle.std.specs.List.{AllByRecursion, Contains, list_any, slice_get}
 use Rattle.std.proofs.lemmas.Bool.{false≢true, false_from_ne_true, or_parts}
 use Rattle.std.proofs.lemmas.List.Elements.{All-contains_itself, recursion_from_All}
 use Rattle.std.proofs.lemmas.Option.{none-some, same_Some}
-use Rattle.broken_units.specs.Leads.{Leads, here, over}
+use Rattle.broken_units.specs.Leads.{ReachesMarked, here, over}
 use Rattle.outside_folder.specs.Files.{Bytes}
 use Rattle.index_files.specs.Units.{place_of, unit_id}
 use Rattle.index_files.specs.declared.unit.Unit.{Unit}
@@ -60,7 +60,7 @@ module _ (units : List Unit) (lacking : List Bool) where
     abbrev lack_one : List Bool
     lack_one = map (lacks_one units) units
 
-    no-way : (i : ℕ) → IsUnmarked lacking i → Leads needs lack_one i → ⊥
+    no-way : (i : ℕ) → IsUnmarked lacking i → ReachesMarked needs lack_one i → ⊥
     no-way i clear way = false≢true (sym clear ∙ (lacks.leads i).1 way)
 
     none-lacks : (i : ℕ) (u : Unit) → slice_get units i ≡ Some u → IsUnmarked lacking i → lacks_one units u ≡ false

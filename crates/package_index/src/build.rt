@@ -6,7 +6,7 @@ ghost use Rattle.outside_folder.specs.Calls.{Leaves};
 ghost use Rattle.index_assembly.specs.Folder.{IsFolderIndex};
 ghost use Rattle.package_index.specs.Extra.{AreMarked, AreNamed, AreThere};
 
-use crate::laws::{extras_are_there, what_is_gathered_is_sound};
+use crate::laws::{extras_are_there, indexes_are_sound};
 use index_assembly::index_of;
 use index_files::read_index_files;
 use outside_folder::Folder;
@@ -30,7 +30,7 @@ pub fn build_index<F: Folder>(
     ensures marked { IfOk result (AreMarked extra.now) }
     ensures folder { Leaves F.tells F.faults folder.old folder.new (IsErrOf result Halt.Failed) }
 {
-    what_is_gathered_is_sound();
+    indexes_are_sound();
     extras_are_there();
     let readings = read_index_files(alloc, locals, extra, places, env, folder)?;
     let index = index_of(alloc, readings, extra)?;

@@ -7,29 +7,29 @@ ghost use Rattle.plan_types.specs.declared.index.Places.{Places};
 ghost use Rattle.plan_types.specs.declared.refusal.Refusal.{Refusal};
 ghost use Rattle.flatten.specs.Sound.{IsSound};
 ghost use Rattle.outside_folder.specs.Files.{Bytes, Files};
-ghost use Rattle.index_files.specs.Readings.{HaveForm};
+ghost use Rattle.index_files.specs.Readings.{AreWellFormed};
 ghost use Rattle.index_files.specs.declared.readings.Readings.{Readings};
 ghost use Rattle.index_assembly.specs.Folder.{IsFolderIndex};
 ghost use Rattle.index_assembly.specs.Index.{IsIndexOf};
 ghost use Rattle.package_index.specs.Extra.{AreMarked, AreNamed, AreThere};
 
 use cabal_file::one_source;
-use sound_description::{what_is_described_has_forms, what_is_described_is_sound};
+use sound_description::{descriptions_are_well_formed, descriptions_are_sound};
 use unit_record::one_record;
 
 /// The index of what was read is sound, over any folder.
-pub fn what_is_gathered_is_sound()
+pub fn indexes_are_sound()
     ensures { (env : Env) (places : Places) (extra : List Named) (readings : Readings) (index : Index)
-        → HaveForm env places extra readings → AreNamed extra → IsIndexOf extra readings index → IsSound env index }
+        → AreWellFormed env places extra readings → AreNamed extra → IsIndexOf extra readings index → IsSound env index }
 {
-    what_is_described_is_sound();
-    what_is_described_has_forms();
+    descriptions_are_sound();
+    descriptions_are_well_formed();
 }
 
 /// Each extra package is in the index, and exactly these packages are marked as extra.
 pub fn extras_are_there()
     ensures has { (env : Env) (places : Places) (extra : List Named) (readings : Readings) (index : Index)
-        → HaveForm env places extra readings → IsIndexOf extra readings index → AreThere extra index }
+        → AreWellFormed env places extra readings → IsIndexOf extra readings index → AreThere extra index }
     ensures marked { (extra : List Named) (readings : Readings) (index : Index)
         → IsIndexOf extra readings index → AreMarked extra index }
 {}

@@ -8,4 +8,4 @@ mod build;
 mod laws;
 
 pub use build::build_index;
-pub use laws::{extras_are_there, one_folder_index, what_is_gathered_is_sound};
+pub use laws::{extras_are_there, one_folder_index, indexes_are_sound};

@@ -29,9 +29,9 @@ use Rattle.plan_components.specs.declared.node.Node.{Node}
 use Rattle.plan_components.specs.declared.node.Piece.{Piece}
 use Rattle.plan_components.specs.declared.node.Piece.TheVariants.{Whole, One}
 use Rattle.plan_components.specs.Chosen.{Selection, body_at, chosen_flags}
-use Rattle.plan_components.specs.Needs.{asked_pieces, component_needs, counts, dep_needs, need_of, needed_nodes, needs_by, needs_of, one_needs, piece_needs, qual_of_dep, unit_need, wanted_needs}
+use Rattle.plan_components.specs.Needs.{meant_pieces, component_needs, counts, dep_needs, need_of, needed_nodes, needs_by, needs_of, one_needs, piece_needs, qual_of_dep, unit_need, wanted_needs}
 use Rattle.plan_components.specs.Plan.{IsInPlan, first, needed}
-use Rattle.plan_components.specs.Wanted.{first_of, first_pieces, is_begun, is_wanted_under, node_of}
+use Rattle.plan_components.specs.Wanted.{first_of, first_pieces, has_first_nodes, is_wanted_under, node_of}
 use Rattle.plan_answers.proofs.Pieces.{asked-in, first-in, pieces_in, whole-in}
 
 module _ (selection : Selection) where
@@ -99,7 +99,7 @@ module _ (selection : Selection) where
         let t = number selection.packages selection.names dep.«package» in
         let q = qual_of_dep node dep t in
         let low = number-low dep.«package» in
-        let found = contains-map (need_of dep.kind q t) (asked_pieces dep (body_at selection q t)) need c in
+        let found = contains-map (need_of dep.kind q t) (meant_pieces dep (body_at selection q t)) need c in
         subst (λ (n : Need). IsWithin n.node) found.2 (record { qual_is = qual-of dep t low; package_is = low; piece_is = asked-in dep (body_at selection q t) found.0 found.1 })
 
     of-component : (flags : List FlagSet) (own : Bool) (component : Component) → AreWithin (component_needs selection node flags own component)
@@ -144,7 +144,7 @@ module _ (selection : Selection) where
   first-within p low node c =
       let begun = package_at selection.packages p in
       let pieces = first_pieces selection begun.local p (body_at selection Top p) in
-      elim (is_begun begun) as (λ b. Contains (if b then map (node_of Top p) pieces else []) node → IsWithin node) [
+      elim (has_first_nodes begun) as (λ b. Contains (if b then map (node_of Top p) pieces else []) node → IsWithin node) [
         | true ↦ λ h.
             let found = contains-map (node_of Top p) pieces node h in
             subst IsWithin found.2 (record {

@@ -15,7 +15,7 @@ use Rattle.plan_components.specs.declared.node.Piece.{Piece}
 use Rattle.plan_components.specs.declared.node.Piece.TheVariants.{Whole, One}
 use Rattle.plan_components.specs.Chosen.{Selection, chosen_flags}
 use Rattle.plan_components.specs.Known.{components_by}
-use Rattle.plan_components.specs.Needs.{asked_pieces, asks}
+use Rattle.plan_components.specs.Needs.{meant_pieces, means}
 use Rattle.plan_components.specs.Wanted.{as_pieces, first_pieces, first_places, is_wanted_under, or_else, places, places_from}
 
 -- ---- places of components
@@ -74,11 +74,11 @@ module _ (body : Option Body) where
   pieces-in true (k ∷ ks) low piece c = whole-in piece c
 
 -- the pieces that a dependency asks for
-pub asked-in : (dep : Dep) (body : Option Body) (piece : Piece) → Contains (asked_pieces dep body) piece → Contains (pieces_in body) piece
+pub asked-in : (dep : Dep) (body : Option Body) (piece : Piece) → Contains (meant_pieces dep body) piece → Contains (pieces_in body) piece
 asked-in dep None piece c = absurd (contains-none piece c)
 asked-in dep (Some (Installed record_of needs)) piece c = whole-in (Some (Installed record_of needs)) piece c
 asked-in dep (Some (Source d flats exposed)) piece c =
-    pieces-in (Some (Source d flats exposed)) d.custom (places (asks dep.kind dep) d.components) (places-low (asks dep.kind dep) d.components) piece c
+    pieces-in (Some (Source d flats exposed)) d.custom (places (means dep.kind dep) d.components) (places-low (means dep.kind dep) d.components) piece c
 
 -- the first pieces of a plan
 pub first-in : (selection : Selection) (local : Bool) (p : ℕ) (body : Option Body) (piece : Piece) → Contains (first_pieces selection local p body) piece → Contains (pieces_in body) piece

@@ -16,7 +16,7 @@ use Rattle.plan_components.specs.declared.reached.Reached.{Reached}
 use Rattle.plan_components.specs.Chosen.{Selection}
 use Rattle.plan_components.specs.Needs.{needed_nodes, needs_of}
 use Rattle.plan_components.specs.Plan.{AreReached, IsInPlan}
-use Rattle.plan_components.specs.Steps.{Puts, node_at}
+use Rattle.plan_components.specs.Steps.{AppendsNew, node_at}
 use Rattle.plan_components.specs.Wanted.{first_nodes}
 use Rattle.plan_components.proofs.Nodes.{alike, differ, exact}
 use Rattle.plan_components.proofs.Putting.{puts_both, puts_key, puts_none}
@@ -44,7 +44,7 @@ once-all : (nodes more : List Node) → Once nodes → Once (insert_all eq-value
 once-all nodes [] once = once
 once-all nodes (n ∷ more) once = once-all (insert_key eq-value.it nodes n) more (once-key nodes n once)
 
-puts-all : (nodes more : List Node) → Puts more nodes (insert_all eq-value.it nodes more)
+puts-all : (nodes more : List Node) → AppendsNew more nodes (insert_all eq-value.it nodes more)
 puts-all nodes [] = puts_none nodes
 puts-all nodes (n ∷ more) =
     let next = insert_key eq-value.it nodes n in

@@ -16,7 +16,7 @@ use Rattle.plan_task.specs.declared.task.Task.{Task}
 use Rattle.event_file.specs.Events.{AreEventsAt}
 use Rattle.replay_text.specs.declared.event.JobEvent.{JobEvent}
 use Rattle.plan_search.specs.declared.blame.Blame.{Blame}
-use Rattle.plan_search.specs.Meaning.{AreToBlame, IsBlamed, MeansTrail, MeetsLimit, Means as MeansFinding}
+use Rattle.plan_search.specs.Meaning.{AreToBlame, IsBlamed, MeansTrail, ReachesLimit, Means as MeansFinding}
 use Rattle.plan_search.specs.declared.search.Picking.{Picking}
 use Rattle.plan_search.specs.declared.search.Picking.TheVariants.{Least}
 use Rattle.plan_search.specs.declared.search.Finding.{Finding}
@@ -65,7 +65,7 @@ pub record GivesUp (picking : Picking) (form : Form) (options : Options) (files 
   pub task : Task
   pub made : IsTask options files (Ok task)
   pub names : NameTable
-  pub met : MeetsLimit picking task.index task.settings names
+  pub met : ReachesLimit picking task.index task.settings names
   pub counts : Counts
   pub text_is : text ≡ gave_up_text_in form task.index counts
 

@@ -21,7 +21,7 @@ use Rattle.conditionals.specs.Value.{and_then, flag_in, value}
 use Rattle.flatten.specs.WholeCondition.{whole_condition}
 use Rattle.common_laws.specs.Lists.{filter-nothing}
 use Rattle.plan_components.specs.declared.node.Node.{Node}
-use Rattle.plan_components.specs.Chosen.{Selection, holds}
+use Rattle.plan_components.specs.Chosen.{Selection, condition_holds}
 use Rattle.plan_components.specs.declared.node.Need.{Need}
 use Rattle.plan_components.specs.Needs.{component_needs, counts, dep_needs, is_asked, needs_among}
 
@@ -31,35 +31,35 @@ both-yes No b = refl
 both-yes Unknown b = refl
 
 -- `&&` is Yes iff both its sides are
-pub sides-hold : (env : Env) (flags : List FlagSet) (whole front last : Cond) → whole ≡ And front last → holds env flags whole ≡ (holds env flags front && holds env flags last)
+pub sides-hold : (env : Env) (flags : List FlagSet) (whole front last : Cond) → whole ≡ And front last → condition_holds env flags whole ≡ (condition_holds env flags front && condition_holds env flags last)
 sides-hold env flags whole front last is =
-    ap (holds env flags) is ∙ ap (is_wanted true) (value-And env (flag_in flags) front last) ∙ both-yes (value env (flag_in flags) front) (value env (flag_in flags) last)
+    ap (condition_holds env flags) is ∙ ap (is_wanted true) (value-And env (flag_in flags) front last) ∙ both-yes (value env (flag_in flags) front) (value env (flag_in flags) last)
 
 -- if the last side is Yes, the others decide; if it isn't, the whole isn't
-pub others-decide : (env : Env) (flags : List FlagSet) (whole front last : Cond) → whole ≡ And front last → holds env flags last ≡ true → holds env flags front ≡ holds env flags whole
-others-decide env flags whole front last is h = sym (sides-hold env flags whole front last is ∙ ap (λ b. holds env flags front && b) h ∙ and-true (holds env flags front))
+pub others-decide : (env : Env) (flags : List FlagSet) (whole front last : Cond) → whole ≡ And front last → condition_holds env flags last ≡ true → condition_holds env flags front ≡ condition_holds env flags whole
+others-decide env flags whole front last is h = sym (sides-hold env flags whole front last is ∙ ap (λ b. condition_holds env flags front && b) h ∙ and-true (condition_holds env flags front))
 
-pub last-decides : (env : Env) (flags : List FlagSet) (whole front last : Cond) → whole ≡ And front last → holds env flags last ≡ false → false ≡ holds env flags whole
-last-decides env flags whole front last is h = sym (sides-hold env flags whole front last is ∙ ap (λ b. holds env flags front && b) h ∙ and-false (holds env flags front))
+pub last-decides : (env : Env) (flags : List FlagSet) (whole front last : Cond) → whole ≡ And front last → condition_holds env flags last ≡ false → false ≡ condition_holds env flags whole
+last-decides env flags whole front last is h = sym (sides-hold env flags whole front last is ∙ ap (λ b. condition_holds env flags front && b) h ∙ and-false (condition_holds env flags front))
 
 pub goes-down : (whole front last : Cond) → whole ≡ And front last → size-Cond front < size-Cond whole
 goes-down whole front last is = let size = ap size-Cond is ∙ sized-And front last in omega (arith, size)
 
 whole-holds : (env : Env) (flags : List FlagSet) (component : Component) (guarded : GuardedDep)
-    → holds env flags (whole_condition component guarded) ≡ (holds env flags component.buildable && holds env flags guarded.when)
+    → condition_holds env flags (whole_condition component guarded) ≡ (condition_holds env flags component.buildable && condition_holds env flags guarded.when)
 whole-holds env flags component guarded =
     ap (is_wanted true) (value-And env (flag_in flags) component.buildable guarded.when)
     ∙ both-yes (value env (flag_in flags) component.buildable) (value env (flag_in flags) guarded.when)
 
 module _ (selection : Selection) (flags : List FlagSet) (own : Bool) (component : Component) where
   -- if the component is buildable, the branches decide
-  pub by_branches : (guarded : GuardedDep) → holds selection.env flags component.buildable ≡ true
-      → counts selection flags own component guarded ≡ ((own || not guarded.dep.internal) && holds selection.env flags guarded.when)
+  pub by_branches : (guarded : GuardedDep) → condition_holds selection.env flags component.buildable ≡ true
+      → counts selection flags own component guarded ≡ ((own || not guarded.dep.internal) && condition_holds selection.env flags guarded.when)
   by_branches guarded h =
-      ap (λ b. (own || not guarded.dep.internal) && b) (whole-holds selection.env flags component guarded ∙ ap (λ b. b && holds selection.env flags guarded.when) h)
+      ap (λ b. (own || not guarded.dep.internal) && b) (whole-holds selection.env flags component guarded ∙ ap (λ b. b && condition_holds selection.env flags guarded.when) h)
 
   -- the dependencies of one group, if its branches are taken, and if they aren't
-  module _ (built : holds selection.env flags component.buildable ≡ true) (when : Cond) (node : Node) where
+  module _ (built : condition_holds selection.env flags component.buildable ≡ true) (when : Cond) (node : Node) where
     abbrev here : Dep → GuardedDep
     here dep = record { when = when; dep = dep }
 
@@ -69,7 +69,7 @@ module _ (selection : Selection) (flags : List FlagSet) (own : Bool) (component 
     abbrev needed : GuardedDep → List Need
     needed guarded = dep_needs selection node guarded.dep
 
-    pub all-among : holds selection.env flags when ≡ true → (deps : List Dep)
+    pub all-among : condition_holds selection.env flags when ≡ true → (deps : List Dep)
         → needs_among selection node flags own component (map here deps) ≡ flat_map (dep_needs selection node) (filter (is_asked own) deps)
     all-among h [] = refl
     all-among h (dep ∷ deps) =
@@ -81,7 +81,7 @@ module _ (selection : Selection) (flags : List FlagSet) (own : Bool) (component 
         by true more = ap (λ l. dep_needs selection node dep ++ l) more
         by false more = more
 
-    pub none-among : holds selection.env flags when ≡ false → (deps : List Dep) → needs_among selection node flags own component (map here deps) ≡ []
+    pub none-among : condition_holds selection.env flags when ≡ false → (deps : List Dep) → needs_among selection node flags own component (map here deps) ≡ []
     none-among h [] = refl
     none-among h (dep ∷ deps) =
         ap (λ b. flat_map needed (counted b dep (map here deps))) (by_branches (here dep) built ∙ ap (λ b. is_asked own dep && b) h ∙ and-false (is_asked own dep))
@@ -94,11 +94,11 @@ module _ (selection : Selection) (flags : List FlagSet) (own : Bool) (component 
       ∙ flat_map-append (λ (g : GuardedDep). dep_needs selection node g.dep) (filter (counts selection flags own component) front) (filter (counts selection flags own component) rest)
 
   -- if the component isn't buildable, no dependency counts
-  none-counts : (guarded : GuardedDep) → holds selection.env flags component.buildable ≡ false → counts selection flags own component guarded ≡ false
+  none-counts : (guarded : GuardedDep) → condition_holds selection.env flags component.buildable ≡ false → counts selection flags own component guarded ≡ false
   none-counts guarded h =
-      and_right (own || not guarded.dep.internal) _ (whole-holds selection.env flags component guarded ∙ ap (λ b. b && holds selection.env flags guarded.when) h)
+      and_right (own || not guarded.dep.internal) _ (whole-holds selection.env flags component guarded ∙ ap (λ b. b && condition_holds selection.env flags guarded.when) h)
 
-  pub no_needs : (node : Node) → holds selection.env flags component.buildable ≡ false → component_needs selection node flags own component ≡ []
+  pub no_needs : (node : Node) → condition_holds selection.env flags component.buildable ≡ false → component_needs selection node flags own component ≡ []
   no_needs node h =
       ap (flat_map (λ (g : GuardedDep). dep_needs selection node g.dep))
       (filter-nothing (counts selection flags own component) component.deps (λ g inside. none-counts g h))

@@ -7,7 +7,7 @@ use Rattle.indexmap.specs.IndexSet.{insert_key}
 use Rattle.common_laws.specs.Lists.{any-at, contains-append, contains-cases, contains-head, contains-left, contains-none, contains-right}
 use Rattle.plan_components.specs.contracts.node.NodePartialEq.TheImpl.{eq-value}
 use Rattle.plan_components.specs.declared.node.Node.{Node}
-use Rattle.plan_components.specs.Steps.{Puts}
+use Rattle.plan_components.specs.Steps.{AppendsNew}
 use Rattle.plan_components.proofs.Nodes.{exact}
 
 -- ---- one node
@@ -40,7 +40,7 @@ module _ (nodes : List Node) (n : Node) where
 
 -- ---- some nodes
 
-pub puts_none : (nodes : List Node) → Puts [] nodes nodes
+pub puts_none : (nodes : List Node) → AppendsNew [] nodes nodes
 puts_none nodes = record {
   more = [];
   grown = sym (append-nil nodes);
@@ -50,7 +50,7 @@ puts_none nodes = record {
 abbrev one : Node → List Node
 one n = n ∷ []
 
-pub puts_key : (old : List Node) (n : Node) → Puts (one n) old (insert_key eq-value.it old n)
+pub puts_key : (old : List Node) (n : Node) → AppendsNew (one n) old (insert_key eq-value.it old n)
 puts_key old n = record { more = grows.0; grown = grows.1; members = λ m. (into m, onto m) }
   where
     b : Bool
@@ -68,7 +68,7 @@ puts_key old n = record { more = grows.0; grown = grows.1; members = λ m. (into
         h
 
 -- inserting one list and then another inserts both
-pub puts_both : (first second old mid new : List Node) → Puts first old mid → Puts second mid new → Puts (first ++ second) old new
+pub puts_both : (first second old mid new : List Node) → AppendsNew first old mid → AppendsNew second mid new → AppendsNew (first ++ second) old new
 puts_both first second old mid new p q = record {
   more = p.more ++ q.more;
   grown = q.grown ∙ ap (λ l. l ++ q.more) p.grown ∙ append_assoc old p.more q.more;
@@ -90,9 +90,9 @@ puts_both first second old mid new p q = record {
 -- ---- a step of a loop
 
 module _ {A : Type 0} (node : A → Node) (xs : List A) (i : ℕ) (d : A) (within : i < length xs) where
-  pub puts_more : (old mid new : List Node) → Puts (map node (take i xs)) old mid → Puts (node (get_or xs i d) ∷ []) mid new → Puts (map node (take (i + 1) xs)) old new
+  pub puts_more : (old mid new : List Node) → AppendsNew (map node (take i xs)) old mid → AppendsNew (node (get_or xs i d) ∷ []) mid new → AppendsNew (map node (take (i + 1) xs)) old new
   puts_more old mid new p q =
-      subst (λ l. Puts l old new) (sym (ap (map node) (take_more xs i d within) ∙ map-append node (take i xs) (get_or xs i d ∷ [])))
+      subst (λ l. AppendsNew l old new) (sym (ap (map node) (take_more xs i d within) ∙ map-append node (take i xs) (get_or xs i d ∷ [])))
       (puts_both (map node (take i xs)) (node (get_or xs i d) ∷ []) old mid new p q)
 
 pub same-list : (xs : List Node) → map (λ n. n) xs ≡ xs

@@ -9,7 +9,7 @@ use Rattle.plan_components.specs.declared.node.Node.{Node}
 use Rattle.plan_components.specs.Chosen.{Selection}
 use Rattle.plan_components.specs.Needs.{needed_nodes, needs_of}
 use Rattle.plan_components.specs.Plan.{IsInPlan, first, needed}
-use Rattle.plan_components.specs.Steps.{Puts, no_node, node_at}
+use Rattle.plan_components.specs.Steps.{AppendsNew, no_node, node_at}
 use Rattle.plan_components.specs.Wanted.{first_nodes}
 
 -- the node found at a place
@@ -30,7 +30,7 @@ pub record Keeps (selection : Selection) (nodes : List Node) (needs : List (List
   pub closed : (node other : Node) → Contains (take (length needs) nodes) node → Contains (needed_nodes selection node) other → Contains nodes other
 
 module _ (selection : Selection) where
-  pub keeps_first : (nodes : List Node) → Puts (first_nodes selection) [] nodes → Keeps selection nodes []
+  pub keeps_first : (nodes : List Node) → AppendsNew (first_nodes selection) [] nodes → Keeps selection nodes []
   keeps_first nodes p = record {
     within = omega arith;
     begun = λ node c. (p.members node).1 (inr c);
@@ -40,7 +40,7 @@ module _ (selection : Selection) where
   }
 
   module _ (nodes new : List Node) (needs : List (List Need)) (row : List Need) (keeps : Keeps selection nodes needs) (lt : length needs < length nodes)
-      (row_is : row ≡ needs_of selection (node_at nodes (length needs))) (p : Puts (needed_nodes selection (node_at nodes (length needs))) nodes new) where
+      (row_is : row ≡ needs_of selection (node_at nodes (length needs))) (p : AppendsNew (needed_nodes selection (node_at nodes (length needs))) nodes new) where
     abbrev n : ℕ
     n = length needs
 

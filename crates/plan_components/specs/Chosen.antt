@@ -60,8 +60,8 @@ abbrev pub chosen_flags : Selection → Qual → ℕ → Description → List Fl
 chosen_flags selection q p d = map (chosen_flag selection q p) d.flags
 
 -- whether a condition is Yes under some flags
-abbrev pub holds : Env → List FlagSet → Cond → Bool
-holds env flags cond = is_wanted true (value env (flag_in flags) cond)
+abbrev pub condition_holds : Env → List FlagSet → Cond → Bool
+condition_holds env flags cond = is_wanted true (value env (flag_in flags) cond)
 
 -- the description or record of the instance that is chosen for a package under a qualifier
 abbrev pub body_at : Selection → Qual → ℕ → Option Body

@@ -15,7 +15,7 @@ use Rattle.qualified_goals.specs.declared.variable.Qual.{Qual}
 use Rattle.plan_components.specs.declared.owner.Known.{Known}
 use Rattle.plan_components.specs.declared.node.Node.{Node}
 use Rattle.plan_components.specs.Chosen.{Selection, body_at, chosen_flags}
-use Rattle.plan_components.specs.Needs.{asks}
+use Rattle.plan_components.specs.Needs.{means}
 use Rattle.plan_components.specs.Wanted.{places}
 
 -- the flags of a chosen instance with their values; a unit has none
@@ -60,8 +60,8 @@ passes_one test None = false
 passes_one test (Some component) = test component
 
 -- whether a dependency means the component at a place
-abbrev pub asks_at : Dep → List Component → ℕ → Bool
-asks_at dep components place = passes_one (asks dep.kind dep) (slice_get components place)
+abbrev pub means_at : Dep → List Component → ℕ → Bool
+means_at dep components place = passes_one (means dep.kind dep) (slice_get components place)
 
 -- the flags and places are those of the owner's package
 pub record IsKnown (selection : Selection) (known : Known) : Type 0 where

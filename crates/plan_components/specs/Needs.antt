@@ -21,22 +21,22 @@ use Rattle.plan_components.specs.declared.node.Need.{Need}
 use Rattle.plan_components.specs.declared.node.Node.{Node}
 use Rattle.plan_components.specs.declared.node.Piece.{Piece}
 use Rattle.plan_components.specs.declared.node.Piece.TheVariants.{Whole, One}
-use Rattle.plan_components.specs.Chosen.{Selection, body_at, chosen_flags, holds}
+use Rattle.plan_components.specs.Chosen.{Selection, body_at, chosen_flags, condition_holds}
 use Rattle.plan_components.specs.Wanted.{as_pieces, is_wanted_under, node_of, places}
 
 -- ---- one dependency
 
 -- whether a dependency means this component: a library or an executable of its name
-abbrev pub asks : DepKind → Dep → Component → Bool
-asks dep_kind.Library dep component = list_any (is_lib component) dep.libs
-asks dep_kind.Tool dep component = is_exe component dep.exe
-asks dep_kind.Setup dep component = list_any (is_lib component) dep.libs
+abbrev pub means : DepKind → Dep → Component → Bool
+means dep_kind.Library dep component = list_any (is_lib component) dep.libs
+means dep_kind.Tool dep component = is_exe component dep.exe
+means dep_kind.Setup dep component = list_any (is_lib component) dep.libs
 
 -- the pieces of the chosen instance that a dependency means; an installed unit is whole
-abbrev pub asked_pieces : Dep → Option Body → List Piece
-asked_pieces dep None = []
-asked_pieces dep (Some (Installed record_of needs)) = Whole ∷ []
-asked_pieces dep (Some (Source d flats exposed)) = as_pieces d.custom (places (asks dep.kind dep) d.components)
+abbrev pub meant_pieces : Dep → Option Body → List Piece
+meant_pieces dep None = []
+meant_pieces dep (Some (Installed record_of needs)) = Whole ∷ []
+meant_pieces dep (Some (Source d flats exposed)) = as_pieces d.custom (places (means dep.kind dep) d.components)
 
 -- the qualifier of a dependency's package: for the own package the node's, for another the one where it is chosen
 abbrev pub qual_of_dep : Node → Dep → ℕ → Qual
@@ -48,7 +48,7 @@ need_of kind q p piece = record { kind = kind; node = node_of q p piece }
 
 -- the needs for a dependency on a package under a qualifier
 abbrev pub needs_under : Selection → Dep → Qual → ℕ → List Need
-needs_under selection dep q t = map (need_of dep.kind q t) (asked_pieces dep (body_at selection q t))
+needs_under selection dep q t = map (need_of dep.kind q t) (meant_pieces dep (body_at selection q t))
 
 -- the needs of a node for a dependency
 abbrev pub dep_needs : Selection → Node → Dep → List Need
@@ -65,7 +65,7 @@ is_asked own dep = own || not dep.internal
 -- whether a dependency counts: its whole condition is Yes
 abbrev pub counts : Selection → List FlagSet → Bool → Component → GuardedDep → Bool
 counts selection flags own component guarded =
-    is_asked own guarded.dep && holds selection.env flags (whole_condition component guarded)
+    is_asked own guarded.dep && condition_holds selection.env flags (whole_condition component guarded)
 
 -- the needs of a node for those dependencies of a component that count
 abbrev pub needs_among : Selection → Node → List FlagSet → Bool → Component → List GuardedDep → List Need

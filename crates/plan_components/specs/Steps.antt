@@ -39,7 +39,7 @@ abbrev pub is_wanted_among : Selection → Owner → Among → Component → Boo
 is_wanted_among selection owner among component = is_among among component && wanted_of selection owner component
 
 -- those of these nodes that are new are appended
-pub record Puts (others old new : List Node) : Type 0 where
+pub record AppendsNew (others old new : List Node) : Type 0 where
   pub more : List Node
   pub grown : new ≡ old ++ more
   pub members : (node : Node) → Contains new node ↔ Contains old node ⊎ Contains others node

@@ -18,7 +18,7 @@ use Rattle.solver_index.specs.Places.{rising}
 use Rattle.plan_components.specs.declared.node.Node.{Node}
 use Rattle.plan_components.specs.declared.node.Piece.{Piece}
 use Rattle.plan_components.specs.declared.node.Piece.TheVariants.{Whole, One}
-use Rattle.plan_components.specs.Chosen.{Selection, body_at, chosen_flags, holds, is_turned_on}
+use Rattle.plan_components.specs.Chosen.{Selection, body_at, chosen_flags, condition_holds, is_turned_on}
 
 -- ---- pieces of a package
 
@@ -54,7 +54,7 @@ is_asked selection q p Foreign = true
 
 -- whether a component is asked for, and buildable under the chosen flags
 abbrev pub is_wanted_under : Selection → Qual → ℕ → List FlagSet → Component → Bool
-is_wanted_under selection q p flags component = is_asked selection q p component.kind && holds selection.env flags component.buildable
+is_wanted_under selection q p flags component = is_asked selection q p component.kind && condition_holds selection.env flags component.buildable
 
 -- the first list, or the second if that is empty
 abbrev pub or_else : List ℕ → List ℕ → List ℕ
@@ -79,14 +79,14 @@ first_pieces selection local p (Some (Installed record_of needs)) = Whole ∷ []
 first_pieces selection local p (Some (Source d flats exposed)) = source_pieces selection local p d
 
 -- local packages and extra ones have first nodes
-abbrev pub is_begun : Package → Bool
-is_begun p = p.local || p.extra
+abbrev pub has_first_nodes : Package → Bool
+has_first_nodes p = p.local || p.extra
 
 -- the first nodes of one package
 abbrev pub first_of : Selection → ℕ → List Node
 first_of selection p =
     let of_package = package_at selection.packages p in
-    if is_begun of_package then map (node_of Top p) (first_pieces selection of_package.local p (body_at selection Top p)) else []
+    if has_first_nodes of_package then map (node_of Top p) (first_pieces selection of_package.local p (body_at selection Top p)) else []
 
 -- the first nodes of all packages, at top level
 abbrev pub first_nodes : Selection → List Node

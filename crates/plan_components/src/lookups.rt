@@ -10,7 +10,7 @@ ghost use Rattle.plan_types.specs.Packages.{package_at};
 ghost use Rattle.qualified_goals.specs.declared.variable.Var.{Var};
 ghost use Rattle.solver_index.specs.Places.{number};
 ghost use Rattle.plan_components.specs.Apart.{are_apart, flags_apart};
-ghost use Rattle.plan_components.specs.Chosen.{body_at, chosen_flag, chosen_flags, selection_from, selection_of, holds, is_turned_on, is_value_on};
+ghost use Rattle.plan_components.specs.Chosen.{body_at, chosen_flag, chosen_flags, selection_from, selection_of, condition_holds, is_turned_on, is_value_on};
 ghost use Rattle.plan_components.specs.Steps.{value_with};
 
 use crate::chosen::Chosen;
@@ -141,13 +141,13 @@ impl<'a> Chosen<'a> {
 
     /// Whether a condition is Yes under some flags. `&&` is Yes iff both sides are. The right side is evaluated
     /// first: it most often isn't Yes, since it is the condition of an `elif` or of the innermost branch.
-    pub fn holds(&self, flags: &List<FlagSet>, cond: &Cond) -> bool
+    pub fn condition_holds(&self, flags: &List<FlagSet>, cond: &Cond) -> bool
         requires { each_once flags.now ≡ true }
-        ensures { result ≡ holds self.now.env.now flags.now cond.now }
+        ensures { result ≡ condition_holds self.now.env.now flags.now cond.now }
     {
         let mut left = cond;
         while let Cond::And(front, last) = left {
-            if !self.holds(flags, last.get()) {
+            if !self.condition_holds(flags, last.get()) {
                 return false;
             }
             left = front.get();
@@ -157,7 +157,7 @@ impl<'a> Chosen<'a> {
 
     fn is_met(&self, flags: &List<FlagSet>, cond: &Cond) -> bool
         requires { each_once flags.now ≡ true }
-        ensures { result ≡ holds self.now.env.now flags.now cond.now }
+        ensures { result ≡ condition_holds self.now.env.now flags.now cond.now }
     {
         is_yes(eval(cond, self.env, flags))
     }

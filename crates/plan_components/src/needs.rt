@@ -4,9 +4,9 @@ ghost use Rattle.std.specs.List.{list_any};
 ghost use Rattle.std.specs.Option.{option_copied};
 ghost use Rattle.flatten.specs.OwnComponents.{is_exe, is_lib};
 ghost use Rattle.plan_components.specs.Apart.{are_apart};
-ghost use Rattle.plan_components.specs.Chosen.{body_at, selection_of, holds};
-ghost use Rattle.plan_components.specs.Known.{AreNamed, IsKnown, IsSourceOf, Names, asks_at};
-ghost use Rattle.plan_components.specs.Needs.{asked_pieces, asks, component_needs, dep_needs, is_asked, need_of, needs_among, needs_by, needs_of, needs_under, one_needs, piece_needs, qual_of_dep, source_needs, unit_need, wanted_needs};
+ghost use Rattle.plan_components.specs.Chosen.{body_at, selection_of, condition_holds};
+ghost use Rattle.plan_components.specs.Known.{AreNamed, IsKnown, IsSourceOf, Names, means_at};
+ghost use Rattle.plan_components.specs.Needs.{meant_pieces, means, component_needs, dep_needs, is_asked, need_of, needs_among, needs_by, needs_of, needs_under, one_needs, piece_needs, qual_of_dep, source_needs, unit_need, wanted_needs};
 ghost use Rattle.plan_components.specs.Wanted.{places};
 ghost use Rattle.plan_types.specs.Guarded.{of_group};
 
@@ -203,7 +203,7 @@ fn push_component(
     ensures { OnOk result (needs.new ≡ needs.old
         ++ component_needs (selection_of chosen.now) owner.now.node owner.now.known.now.flags own component.now) }
 {
-    if chosen.holds(&owner.known.flags, component.buildable.get()) {
+    if chosen.condition_holds(&owner.known.flags, component.buildable.get()) {
         push_deps(alloc, needs, chosen, owner, own, component)?;
     }
     Ok(())
@@ -218,7 +218,7 @@ fn push_deps(
     component: &Component,
 ) -> Result<(), NoMemory>
     requires known { IsKnown (selection_of chosen.now) owner.now.known.now }
-    requires built { holds chosen.now.env.now owner.now.known.now.flags component.now.buildable ≡ true }
+    requires built { condition_holds chosen.now.env.now owner.now.known.now.flags component.now.buildable ≡ true }
     ensures { OnOk result (needs.new ≡ needs.old
         ++ component_needs (selection_of chosen.now) owner.now.node owner.now.known.now.flags own component.now) }
 {
@@ -239,11 +239,11 @@ fn push_group(
     group: &DepGroup,
 ) -> Result<(), NoMemory>
     requires known { IsKnown (selection_of chosen.now) owner.now.known.now }
-    requires built { holds chosen.now.env.now owner.now.known.now.flags component.now.buildable ≡ true }
+    requires built { condition_holds chosen.now.env.now owner.now.known.now.flags component.now.buildable ≡ true }
     ensures { OnOk result (needs.new ≡ needs.old
         ++ needs_among (selection_of chosen.now) owner.now.node owner.now.known.now.flags own component.now (of_group group.now)) }
 {
-    if chosen.holds(&owner.known.flags, group.when.get()) {
+    if chosen.condition_holds(&owner.known.flags, group.when.get()) {
         push_asked(alloc, needs, chosen, owner, own, group.deps.as_slice())?;
     }
     Ok(())
@@ -288,7 +288,7 @@ fn push_dep(
 {
     let package = chosen.number(&dep.package);
     let qual = qual_of_dep(owner.node, dep, package);
-    let pieces = asked_pieces(alloc, chosen, owner.known, dep, qual, package)?;
+    let pieces = meant_pieces(alloc, chosen, owner.known, dep, qual, package)?;
     push_pieces(needs, dep.kind, qual, package, pieces.as_slice())
 }
 
@@ -316,7 +316,7 @@ fn qual_of_dep(node: Node, dep: &Dep, package: u64) -> Qual
     qual_for(dep.kind, package_var(node.qual, node.package), package)
 }
 
-fn asked_pieces(
+fn meant_pieces(
     alloc: Global,
     chosen: &Chosen<'_>,
     known: &Known,
@@ -325,7 +325,7 @@ fn asked_pieces(
     package: u64,
 ) -> Result<List<Piece>, NoMemory>
     requires { IsKnown (selection_of chosen.now) known.now }
-    ensures { IfOk result (λ pieces. pieces ≡ asked_pieces dep.now (body_at (selection_of chosen.now) qual «package»)) }
+    ensures { IfOk result (λ pieces. pieces ≡ meant_pieces dep.now (body_at (selection_of chosen.now) qual «package»)) }
 {
     match chosen.body(qual, package) {
         None => Ok(List::new(alloc)),
@@ -333,14 +333,14 @@ fn asked_pieces(
         Some(Body::Source { description, .. }) => {
             let components = description.components.as_slice();
             let own = known.is_of(qual, package);
-            let places = asked_places(alloc, known, own, dep, components)?;
+            let places = meant_places(alloc, known, own, dep, components)?;
             as_pieces(alloc, description.custom, places.as_slice())
         }
     }
 }
 
 // If the package is the known one and the dependency is on one name, only components of that name are tested.
-fn asked_places(
+fn meant_places(
     alloc: Global,
     known: &Known,
     own: bool,
@@ -348,7 +348,7 @@ fn asked_places(
     components: &[Component],
 ) -> Result<List<u64>, NoMemory>
     requires { own ≡ true → AreNamed components.now known.now.places }
-    ensures { IfOk result (λ found. found ≡ places (asks dep.now.kind dep.now) components.now) }
+    ensures { IfOk result (λ found. found ≡ places (means dep.now.kind dep.now) components.now) }
 {
     if own {
         if let Some(name) = asked_name(alloc, dep)? {
@@ -365,9 +365,9 @@ fn asked_among(
     components: &[Component],
     name: &Text,
 ) -> Result<List<u64>, NoMemory>
-    requires names { Names (asks dep.now.kind dep.now) name.now }
+    requires names { Names (means dep.now.kind dep.now) name.now }
     requires named { AreNamed components.now known.now.places }
-    ensures { IfOk result (λ found. found ≡ places (asks dep.now.kind dep.now) components.now) }
+    ensures { IfOk result (λ found. found ≡ places (means dep.now.kind dep.now) components.now) }
 {
     let found = asked_at(alloc, dep, components, known.named(name))?;
     Ok(found)
@@ -379,29 +379,29 @@ fn asked_at(
     components: &[Component],
     places: &[u64],
 ) -> Result<List<u64>, NoMemory>
-    ensures { IfOk result (λ found. found ≡ filter (asks_at dep.now components.now) places.now) }
+    ensures { IfOk result (λ found. found ≡ filter (means_at dep.now components.now) places.now) }
 {
     let mut found = List::new(alloc);
     for place in places {
-        if asks_at(dep, components, *place) {
+        if means_at(dep, components, *place) {
             found.push(*place)?;
         }
     }
     Ok(found)
 }
 
-fn asks_at(dep: &Dep, components: &[Component], place: u64) -> bool
-    ensures { result ≡ asks_at dep.now components.now place }
+fn means_at(dep: &Dep, components: &[Component], place: u64) -> bool
+    ensures { result ≡ means_at dep.now components.now place }
 {
     match components.get(place as usize) {
-        Some(component) => asks(dep, component),
+        Some(component) => means(dep, component),
         None => false,
     }
 }
 
 // The name of the components that a dependency means, if it names only one.
 fn asked_name(alloc: Global, dep: &Dep) -> Result<Option<Text>, NoMemory>
-    ensures { IfOk result (λ name. IfSome name (Names (asks dep.now.kind dep.now))) }
+    ensures { IfOk result (λ name. IfSome name (Names (means dep.now.kind dep.now))) }
 {
     match dep.kind {
         DepKind::Library => only_library(alloc, dep.libs.as_slice()),
@@ -426,19 +426,19 @@ fn only_library(alloc: Global, libs: &[LibName]) -> Result<Option<Text>, NoMemor
 }
 
 fn all_asked(alloc: Global, dep: &Dep, components: &[Component]) -> Result<List<u64>, NoMemory>
-    ensures { IfOk result (λ found. found ≡ places (asks dep.now.kind dep.now) components.now) }
+    ensures { IfOk result (λ found. found ≡ places (means dep.now.kind dep.now) components.now) }
 {
     let mut found = List::new(alloc);
     for place in 0..components.len() {
-        if asks(dep, &components[place]) {
+        if means(dep, &components[place]) {
             found.push(place as u64)?;
         }
     }
     Ok(found)
 }
 
-fn asks(dep: &Dep, component: &Component) -> bool
-    ensures { result ≡ asks dep.now.kind dep.now component.now }
+fn means(dep: &Dep, component: &Component) -> bool
+    ensures { result ≡ means dep.now.kind dep.now component.now }
 {
     match dep.kind {
         DepKind::Library => asks_for_library(dep, component),

@@ -5,7 +5,7 @@ ghost use Rattle.plan_components.specs.Known.{IsKnown};
 ghost use Rattle.plan_components.specs.Needs.{needed_nodes, needs_of};
 ghost use Rattle.plan_components.specs.Plan.{AreReached};
 ghost use Rattle.plan_components.specs.SameNode.{place_of};
-ghost use Rattle.plan_components.specs.Steps.{Puts, node_at};
+ghost use Rattle.plan_components.specs.Steps.{AppendsNew, node_at};
 ghost use Rattle.plan_components.specs.Wanted.{first_nodes};
 
 use crate::chosen::Chosen;
@@ -69,7 +69,7 @@ pub fn reach(alloc: Global, chosen: &Chosen<'_>) -> Result<Reached, NoMemory>
 }
 
 fn first_set(alloc: Global, chosen: &Chosen<'_>) -> Result<IndexSet<Node>, NoMemory>
-    ensures { IfOk result (λ nodes. Puts (first_nodes (selection_of chosen.now)) [] nodes.keys) }
+    ensures { IfOk result (λ nodes. AppendsNew (first_nodes (selection_of chosen.now)) [] nodes.keys) }
 {
     let mut nodes = IndexSet::new(alloc);
     let first = first_nodes(alloc, chosen)?;
@@ -88,7 +88,7 @@ fn visit(
     requires place { place < length nodes.old.keys }
     requires last { IfSome last.old (IsKnown (selection_of chosen.now)) }
     ensures needs { IfOk result (λ needs. needs ≡ needs_of (selection_of chosen.now) (node_at nodes.old.keys place)) }
-    ensures put { OnOk result (Puts (needed_nodes (selection_of chosen.now) (node_at nodes.old.keys place)) nodes.old.keys nodes.new.keys) }
+    ensures put { OnOk result (AppendsNew (needed_nodes (selection_of chosen.now) (node_at nodes.old.keys place)) nodes.old.keys nodes.new.keys) }
     ensures last { IfSome last.new (IsKnown (selection_of chosen.now)) }
 {
     let node = nodes[place];

@@ -5,7 +5,7 @@ ghost use Rattle.qualified_goals.specs.declared.variable.Qual.TheVariants.{Top};
 ghost use Rattle.plan_components.specs.Apart.{are_apart};
 ghost use Rattle.plan_components.specs.Chosen.{body_at, selection_of};
 ghost use Rattle.plan_components.specs.Steps.{is_among, is_wanted_among, wanted_of};
-ghost use Rattle.plan_components.specs.Wanted.{first_nodes, first_of, first_pieces, first_places, is_begun, node_of, or_else, places, source_pieces};
+ghost use Rattle.plan_components.specs.Wanted.{first_nodes, first_of, first_pieces, first_places, has_first_nodes, node_of, or_else, places, source_pieces};
 
 use crate::chosen::Chosen;
 use crate::components::{is_executable, is_lib};
@@ -47,15 +47,15 @@ fn push_first(
     requires { «package».now ≡ package_at (selection_of chosen.now).packages place }
     ensures { OnOk result (nodes.new ≡ nodes.old ++ first_of (selection_of chosen.now) place) }
 {
-    if is_begun(package) {
+    if has_first_nodes(package) {
         let pieces = first_pieces(alloc, chosen, package.local, place)?;
         push_nodes(nodes, place, pieces.as_slice())?;
     }
     Ok(())
 }
 
-fn is_begun(package: &Package) -> bool
-    ensures { result ≡ is_begun «package».now }
+fn has_first_nodes(package: &Package) -> bool
+    ensures { result ≡ has_first_nodes «package».now }
 {
     package.local || package.extra
 }

@@ -11,7 +11,7 @@ use Rattle.plan_nodes.specs.declared.node.PlanNode.{PlanNode}
 use Rattle.plan_jobs.specs.declared.job.JobState.TheVariants.{Waiting}
 use Rattle.plan_jobs.specs.declared.needs.Needs.{Needs}
 use Rattle.plan_jobs.specs.Marks.{NoneMarked}
-use Rattle.plan_jobs.specs.Events.{is_installed, is_running, node_at, state_after, state_by, states_after, wants}
+use Rattle.plan_jobs.specs.Events.{is_installed, is_running, node_at, state_after, state_by, states_after, lists_id}
 use Rattle.plan_jobs.specs.Board.{AreAfter, AreBegun, AreHeld, AreReady, HasFailed, Keeps, is_begun, state_at}
 use Rattle.plan_jobs.specs.Building.{AreOf, first_state}
 use Rattle.plan_jobs.proofs.Told.{history_begins, state_in, states_count}
@@ -50,9 +50,9 @@ installed_begun false true e = refl
 installed_begun false false e = absurd (cc)
 
 -- an installed node needs nothing
-pub wants_none : (node : PlanNode) (id : List ℕ) → is_installed node.kind ≡ true → wants node id ≡ true → ⊥
-wants_none node id there wanted =
-    let wrong : not true ≡ true = ap not (sym there) ∙ (and_parts (not (is_installed node.kind)) (list_any (same_text id) (node.libs ++ node.tools ++ node.setups)) wanted).0 in cc
+pub wants_none : (node : PlanNode) (id : List ℕ) → is_installed node.kind ≡ true → lists_id node id ≡ true → ⊥
+wants_none node id there listed_places =
+    let wrong : not true ≡ true = ap not (sym there) ∙ (and_parts (not (is_installed node.kind)) (list_any (same_text id) (node.libs ++ node.tools ++ node.setups)) listed_places).0 in cc
 
 module _ (nodes : List PlanNode) (needs : Needs) (r : AreOf nodes needs) where
   count : length needs.states ≡ length nodes

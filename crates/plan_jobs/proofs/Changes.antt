@@ -9,7 +9,7 @@ use Rattle.plan_jobs.specs.declared.job.JobState.{JobState}
 use Rattle.plan_jobs.specs.declared.job.JobState.TheVariants.{Waiting, Running, Completed, Failed}
 use Rattle.plan_jobs.specs.Marks.{NoneMarked}
 use Rattle.plan_jobs.specs.Events.{is_running}
-use Rattle.plan_jobs.specs.Board.{AreBegun, AreCounts, AreHeld, AreReady, HasFailed, HoldsMore, IsUser, Keeps, Leads, is_begun, is_completed, state_at, times}
+use Rattle.plan_jobs.specs.Board.{AreBegun, AreCounts, AreHeld, AreReady, HasFailed, MarksMore, IsUser, Keeps, Leads, is_begun, is_completed, state_at, times}
 use Rattle.plan_jobs.proofs.Spread.{held_more, held_same, marked-unset}
 use Rattle.plan_jobs.proofs.Counts.{none_open, open_less, open_same, times_none}
 
@@ -109,7 +109,7 @@ module _ (users : List (List ℕ)) (states : List JobState) (b : AreBegun users 
               (cases_eq need place),
         ))
 
-    pub held_grows : (place : ℕ) (new : List Bool) → (IsMarked held place → ⊥) → place < length states → HoldsMore users (set states place Failed) place held new
+    pub held_grows : (place : ℕ) (new : List Bool) → (IsMarked held place → ⊥) → place < length states → MarksMore users (set states place Failed) place held new
         → AreHeld users (set states place Failed) (HasFailed (set states place Failed)) new
     held_grows place new free lt m =
         held_more users (set states place Failed) (HasFailed states) (HasFailed (set states place Failed)) place held new (held_set place Failed free (λ e. cc) lt) m
@@ -215,7 +215,7 @@ module _ (users : List (List ℕ)) (states : List JobState) (unmet : List ℕ) (
     pub begun_now : (state : JobState) → AreBegun users (set states place state)
     begun_now state = begun_set users states k.begun place state not_completed met
 
-    pub fail_keeps : (new new_work : List Bool) → HoldsMore users (set states place Failed) place held new → length new_work ≡ length to_hold → NoneMarked new_work
+    pub fail_keeps : (new new_work : List Bool) → MarksMore users (set states place Failed) place held new → length new_work ≡ length to_hold → NoneMarked new_work
         → Keeps users (set states place Failed) unmet ready new new_work (running - 1) slots
     fail_keeps new new_work m room idle =
         let same = length-set states place Failed in

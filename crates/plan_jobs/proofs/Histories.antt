@@ -11,7 +11,7 @@ use Rattle.plan_jobs.specs.declared.job.JobFault.{JobFault}
 use Rattle.plan_jobs.specs.declared.job.JobFault.TheVariants.{NoneReady, NoSlot, NotRunning}
 use Rattle.plan_jobs.specs.declared.job.JobState.{JobState}
 use Rattle.plan_jobs.specs.declared.job.JobState.TheVariants.{Waiting, Running, Completed, Failed}
-use Rattle.plan_jobs.specs.Events.{Event, IsEnd, IsHeld, IsHistory, IsReady, IsRight, IsStart, NeedsNode, Runs, completes, fails, starts, is_completion_of, is_failure_of, is_installed, is_running, is_start_of, node_at, running_after, state_after, state_by, states_after, wants}
+use Rattle.plan_jobs.specs.Events.{Event, IsReportReply, IsHeld, IsHistory, IsReady, IsRight, IsStart, NeedsNode, Runs, completes, fails, starts, is_completion_of, is_failure_of, is_installed, is_running, is_start_of, node_at, running_after, state_after, state_by, states_after, lists_id}
 use Rattle.plan_jobs.specs.Board.{is_begun, state_at}
 use Rattle.plan_jobs.specs.Laws.{HasEnded, IsAtRest, KeepsHeld, StartsAfterNeeds, StartsNoneHeld, StartsOnce}
 use Rattle.plan_jobs.proofs.Counts.{other_place, same_place}
@@ -230,10 +230,10 @@ module _ (nodes : List PlanNode) (events : List Event) (rest : IsAtRest nodes ev
       (λ all. ⊎_elim
       (λ done. inl (λ need lt n. ⊎_elim (λ less. all need less n) (λ ge. let e : k ≡ need = omega (arith, lt, ge) in subst (λ m. state_after nodes events m ≡ Completed) e done) (cases_lt need k)))
       (λ not_done. ⊎_elim
-      (λ wanted. inr (k, (omega (arith, le), wanted), not_done))
+      (λ listed_places. inr (k, (omega (arith, le), listed_places), not_done))
       (λ not_wanted. inl (λ need lt n. ⊎_elim (λ less. all need less n)
-      (λ ge. let e : need ≡ k = omega (arith, lt, ge) in absurd (not_wanted (subst (λ m. wants (node_at nodes place) (node_at nodes m).id ≡ true) e n.1))) (cases_lt need k)))
-      (true_or (wants (node_at nodes place) (node_at nodes k).id)))
+      (λ ge. let e : need ≡ k = omega (arith, lt, ge) in absurd (not_wanted (subst (λ m. lists_id (node_at nodes place) (node_at nodes m).id ≡ true) e n.1))) (cases_lt need k)))
+      (true_or (lists_id (node_at nodes place) (node_at nodes k).id)))
       (done_or (state_after nodes events k)))
       (λ found. inr found)
       (scan place k (omega (arith, le)))
@@ -278,7 +278,7 @@ one_start nodes slots events (Err NoneReady) (Err NoneReady) x y = refl
 one_start nodes slots events (Err NoneReady) (Err NotRunning) x y = absurd y
 one_start nodes slots events (Err NotRunning) b x y = absurd x
 
-pub one_end : (nodes : List PlanNode) (events : List Event) (place : ℕ) (a b : Result ⊤ JobFault) → IsEnd nodes events place a → IsEnd nodes events place b → a ≡ b
+pub one_end : (nodes : List PlanNode) (events : List Event) (place : ℕ) (a b : Result ⊤ JobFault) → IsReportReply nodes events place a → IsReportReply nodes events place b → a ≡ b
 one_end nodes events place (Ok a) (Ok b) x y = refl
 one_end nodes events place (Ok a) (Err NotRunning) x y = absurd (y x)
 one_end nodes events place (Ok a) (Err NoneReady) x y = absurd y

@@ -14,9 +14,9 @@ use Rattle.plan_nodes.specs.Line.{no_line}
 use Rattle.plan_nodes.specs.declared.node.PlanNode.{PlanNode}
 use Rattle.plan_jobs.specs.declared.job.JobState.{JobState}
 use Rattle.plan_jobs.specs.declared.needs.Needs.{Needs}
-use Rattle.plan_jobs.specs.Events.{NeedsNode, is_installed, node_at, wants}
+use Rattle.plan_jobs.specs.Events.{NeedsNode, is_installed, node_at, lists_id}
 use Rattle.plan_jobs.specs.Board.{IsUser, is_completed, is_open, open_needs, times, with_user}
-use Rattle.plan_jobs.specs.Building.{AddsPlace, AreOf, first_state, wanted}
+use Rattle.plan_jobs.specs.Building.{AddsPlace, AreOf, first_state, listed_places}
 use Rattle.plan_jobs.proofs.Counts.{other_place, same_place, some_open}
 use Rattle.plan_jobs.proofs.Replies.{needs_within}
 
@@ -202,7 +202,7 @@ module _ (nodes : List PlanNode) (k : ℕ) (needs : Needs) (r : IsRead nodes k n
               (or_cases (a || b) d (sym e ∙ c.1)),
         )
 
-    pub wanted_in : (place : ℕ) → Contains (wanted needs.places node) place ↔ (place < k) × (wants node (node_at nodes place).id ≡ true)
+    pub wanted_in : (place : ℕ) → Contains (listed_places needs.places node) place ↔ (place < k) × (lists_id node (node_at nodes place).id ≡ true)
     wanted_in place =
         elim (is_installed node.kind) as (λ b. Contains (cond b [] (libs ++ tools ++ setups)) place
         ↔ (place < k) × (not b && list_any (same_text (node_at nodes place).id) (node.libs ++ node.tools ++ node.setups) ≡ true)) [
@@ -210,15 +210,15 @@ module _ (nodes : List PlanNode) (k : ℕ) (needs : Needs) (r : IsRead nodes k n
           | false ↦ in_lists place
         ]
 
-    pub wanted_within : All (λ place. place < k) (wanted needs.places node)
-    wanted_within i d lt = ((wanted_in (get_or (wanted needs.places node) i d)).0 (Contains-get_or (wanted needs.places node) i d lt)).0
+    pub wanted_within : All (λ place. place < k) (listed_places needs.places node)
+    wanted_within i d lt = ((wanted_in (get_or (listed_places needs.places node) i d)).0 (Contains-get_or (listed_places needs.places node) i d lt)).0
 
   module _ (new : Needs) (lt : k < length nodes) where
     abbrev node : PlanNode
     node = node_at nodes k
 
     abbrev list : List ℕ
-    list = wanted needs.places node
+    list = listed_places needs.places node
 
     module _ (places : AddsPlace needs.places node.id k new.places) (users : new.users.items ≡ with_user k needs.users.items list ++ [] ∷ [])
         (states : new.states ≡ needs.states ++ first_state node ∷ []) (unmet : new.unmet ≡ needs.unmet ++ count_by (is_open needs.states) list ∷ []) where

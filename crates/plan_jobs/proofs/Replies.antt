@@ -7,7 +7,7 @@ use Rattle.plan_nodes.specs.Line.{no_line}
 use Rattle.plan_nodes.specs.declared.node.PlanNode.{PlanNode}
 use Rattle.plan_jobs.specs.declared.job.JobState.{JobState}
 use Rattle.plan_jobs.specs.Marks.{IsLeastMarked, NoneMarked}
-use Rattle.plan_jobs.specs.Events.{Event, IsHeld, IsLeastReady, IsReady, NeedsNode, node_at, running_after, state_after, wants}
+use Rattle.plan_jobs.specs.Events.{Event, IsHeld, IsLeastReady, IsReady, NeedsNode, node_at, running_after, state_after, lists_id}
 use Rattle.plan_jobs.specs.Board.{AreAfter, IsUser, Keeps, is_completed, state_at}
 use Rattle.plan_jobs.proofs.Counts.{some_open}
 use Rattle.plan_jobs.proofs.Changes.{held_by_way, ready_met}
@@ -17,7 +17,7 @@ use Rattle.plan_jobs.proofs.Told.{after_count, after_running, after_state}
 pub needs_within : (nodes : List PlanNode) (place need : ℕ) → NeedsNode nodes place need → place < length nodes
 needs_within nodes place need n = ⊎_elim
     (λ lt. lt)
-    (λ ge. let e : wants no_line (node_at nodes need).id ≡ true = ap (λ node. wants node (node_at nodes need).id) (sym (get_or_past nodes place no_line ge)) ∙ n.1 in cc)
+    (λ ge. let e : lists_id no_line (node_at nodes need).id ≡ true = ap (λ node. lists_id node (node_at nodes need).id) (sym (get_or_past nodes place no_line ge)) ∙ n.1 in cc)
     (cases_lt place (length nodes))
 
 pub path_down : (nodes : List PlanNode) (place need : ℕ) → IsPath (NeedsNode nodes) place need → need < place

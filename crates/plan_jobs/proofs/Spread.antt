@@ -10,7 +10,7 @@ use Rattle.common_laws.specs.Graphs.{IsMarked, last, more}
 use Rattle.plan_jobs.specs.declared.job.JobState.{JobState}
 use Rattle.plan_jobs.specs.declared.job.JobState.TheVariants.{Waiting}
 use Rattle.plan_jobs.specs.Marks.{NoneMarked}
-use Rattle.plan_jobs.specs.Board.{AreBegun, AreHeld, HoldsMore, HoldsUsers, IsUser, Leads, state_at}
+use Rattle.plan_jobs.specs.Board.{AreBegun, AreHeld, MarksMore, MarksUsers, IsUser, Leads, state_at}
 
 -- a place is marked or not
 pub marked_or : (marks : List Bool) (place : ℕ) → IsMarked marks place ⊎ (IsMarked marks place → ⊥)
@@ -44,7 +44,7 @@ marked-unset marks at place lt = ⊎_elim
 pub users_within : (users : List (List ℕ)) (states : List JobState) (place : ℕ) → AreBegun users states → All (λ user. user < length states) (get_or users place [])
 users_within users states place b k d lt = b.within (get_or (get_or users place []) k d) place (Contains-get_or (get_or users place []) k d lt)
 
-pub holds_none : (states : List JobState) (held work : List Bool) → HoldsUsers [] states held held work work
+pub holds_none : (states : List JobState) (held work : List Bool) → MarksUsers [] states held held work work
 holds_none states held work =
     record {
       same = refl;
@@ -56,7 +56,7 @@ holds_none states held work =
       fewer = omega arith;
     }
 
-pub holds_both : (xs ys : List ℕ) (states : List JobState) (a b c wa wb wc : List Bool) → HoldsUsers xs states a b wa wb → HoldsUsers ys states b c wb wc → HoldsUsers (xs ++ ys) states a c wa wc
+pub holds_both : (xs ys : List ℕ) (states : List JobState) (a b c wa wb wc : List Bool) → MarksUsers xs states a b wa wb → MarksUsers ys states b c wb wc → MarksUsers (xs ++ ys) states a c wa wc
 holds_both xs ys states a b c wa wb wc h k =
     record {
       same = k.same ∙ h.same;
@@ -91,7 +91,7 @@ at_most_one true = omega arith
 at_most_one false = omega arith
 
 pub holds_one : (states : List JobState) (held work : List Bool) (user : ℕ) → user < length states → length held ≡ length states → length states ≤ length work → state_at states user ≡ Waiting
-    → get_or held user false ≡ false → HoldsUsers (user ∷ []) states held (set held user true) work (set work user true)
+    → get_or held user false ≡ false → MarksUsers (user ∷ []) states held (set held user true) work (set work user true)
 holds_one states held work user lt count room waits free =
     let in_held : user < length held = omega (arith, count) in
     let in_work : user < length work = omega (arith, room) in
@@ -115,7 +115,7 @@ holds_one states held work user lt count room waits free =
     }
 
 -- a user that doesn't wait, or is marked already, changes nothing
-pub holds_not : (states : List JobState) (held work : List Bool) (user : ℕ) → (state_at states user ≡ Waiting → IsMarked held user) → HoldsUsers (user ∷ []) states held held work work
+pub holds_not : (states : List JobState) (held work : List Bool) (user : ℕ) → (state_at states user ≡ Waiting → IsMarked held user) → MarksUsers (user ∷ []) states held held work work
 holds_not states held work user done =
     record {
       same = refl;
@@ -139,7 +139,7 @@ pub record IsHolding (users : List (List ℕ)) (states : List JobState) (place :
   pub within : (user : ℕ) → IsMarked work user → user < length states
 
 module _ (users : List (List ℕ)) (states : List JobState) (place : ℕ) (b : AreBegun users states) where
-  pub holding_begins : (old held old_work work : List Bool) → NoneMarked old_work → length old ≡ length states → HoldsUsers (get_or users place []) states old held old_work work
+  pub holding_begins : (old held old_work work : List Bool) → NoneMarked old_work → length old ≡ length states → MarksUsers (get_or users place []) states old held old_work work
       → IsHolding users states place old held old_work work
   holding_begins old held old_work work idle count h =
       record {
@@ -156,7 +156,7 @@ module _ (users : List (List ℕ)) (states : List JobState) (place : ℕ) (b : A
       }
 
   pub holding_goes : (old held held' old_work work work' : List Bool) (next : ℕ) → IsHolding users states place old held old_work work → IsMarked work next → next < length work
-      → HoldsUsers (get_or users next []) states held held' (set work next false) work' → IsHolding users states place old held' old_work work'
+      → MarksUsers (get_or users next []) states held held' (set work next false) work' → IsHolding users states place old held' old_work work'
   holding_goes old held held' old_work work work' next s m lt h =
       let left = λ (u : ℕ). marked-unset work next u lt in
       record {
@@ -189,7 +189,7 @@ module _ (users : List (List ℕ)) (states : List JobState) (place : ℕ) (b : A
             ((h.work u).0 k);
       }
 
-  pub holding_ends : (old held old_work work : List Bool) → IsHolding users states place old held old_work work → NoneMarked work → HoldsMore users states place old held
+  pub holding_ends : (old held old_work work : List Bool) → IsHolding users states place old held old_work work → NoneMarked work → MarksMore users states place old held
   holding_ends old held old_work work s none =
       record {
         same = s.same;
@@ -199,7 +199,7 @@ module _ (users : List (List ℕ)) (states : List JobState) (place : ℕ) (b : A
       }
 
 pub fewer_left : (held held' work work' : List Bool) (next : ℕ) (users : List ℕ) (states : List JobState) → IsMarked work next → next < length work
-    → HoldsUsers users states held held' (set work next false) work'
+    → MarksUsers users states held held' (set work next false) work'
     → 2 * count_by not held' + count_by (λ mark. mark) work' < 2 * count_by not held + count_by (λ mark. mark) work
 fewer_left held held' work work' next users states m lt h =
     let f = h.fewer in
@@ -210,7 +210,7 @@ fewer_left held held' work work' next users states m lt h =
 
 module _ (users : List (List ℕ)) (states : List JobState) where
   -- one more node has failed, and its waiting users were marked
-  pub held_more : (P Q : ℕ → Type 0) (place : ℕ) (old new : List Bool) → AreHeld users states P old → HoldsMore users states place old new
+  pub held_more : (P Q : ℕ → Type 0) (place : ℕ) (old new : List Bool) → AreHeld users states P old → MarksMore users states place old new
       → Q place → ((need : ℕ) → P need → Q need) → ((need : ℕ) → Q need → P need ⊎ (need ≡ place)) → AreHeld users states Q new
   held_more P Q place old new h s here up down =
       record {

@@ -10,7 +10,7 @@ use Rattle.plan_nodes.specs.declared.node.PlanNode.{PlanNode}
 use Rattle.plan_jobs.specs.declared.job.JobFault.{JobFault}
 use Rattle.plan_jobs.specs.declared.job.JobState.{JobState}
 use Rattle.plan_jobs.specs.declared.job.JobState.TheVariants.{Waiting, Running, Completed, Failed}
-use Rattle.plan_jobs.specs.Events.{Event, IsEnd, IsHistory, IsRight, IsStart, Runs, completes, fails, starts, is_completion_of, is_failure_of, is_installed, is_running, is_start_of, node_at, running_after, state_after, state_by, states_after}
+use Rattle.plan_jobs.specs.Events.{Event, IsReportReply, IsHistory, IsRight, IsStart, Runs, completes, fails, starts, is_completion_of, is_failure_of, is_installed, is_running, is_start_of, node_at, running_after, state_after, state_by, states_after}
 use Rattle.plan_jobs.specs.Board.{AreAfter, Board, state_at}
 use Rattle.plan_jobs.proofs.Counts.{other_place, same_place}
 use Rattle.plan_jobs.proofs.Changes.{state_here, state_there}
@@ -171,10 +171,10 @@ module _ (nodes : List PlanNode) (slots : ℕ) (events : List Event) (board : Bo
   pub after_no_start : (fault : JobFault) → IsStart nodes slots events (Err fault) → AreAfter nodes slots (events ++ starts (Err fault) ∷ []) board
   after_no_start fault r = after_quiet (starts (Err fault)) r (λ place. stays_so nodes events (starts (Err fault)) place refl refl refl)
 
-  pub after_no_completion : (place : ℕ) (fault : JobFault) → IsEnd nodes events place (Err fault) → AreAfter nodes slots (events ++ completes place (Err fault) ∷ []) board
+  pub after_no_completion : (place : ℕ) (fault : JobFault) → IsReportReply nodes events place (Err fault) → AreAfter nodes slots (events ++ completes place (Err fault) ∷ []) board
   after_no_completion place fault r = after_quiet (completes place (Err fault)) r (λ other. stays_so nodes events (completes place (Err fault)) other refl refl refl)
 
-  pub after_no_failure : (place : ℕ) (fault : JobFault) → IsEnd nodes events place (Err fault) → AreAfter nodes slots (events ++ fails place (Err fault) ∷ []) board
+  pub after_no_failure : (place : ℕ) (fault : JobFault) → IsReportReply nodes events place (Err fault) → AreAfter nodes slots (events ++ fails place (Err fault) ∷ []) board
   after_no_failure place fault r = after_quiet (fails place (Err fault)) r (λ other. stays_so nodes events (fails place (Err fault)) other refl refl refl)
 
   pub after_start : (place : ℕ) → IsStart nodes slots events (Ok place)

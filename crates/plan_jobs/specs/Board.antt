@@ -65,7 +65,7 @@ abbrev pub Leads : List (List ℕ) → ℕ → ℕ → Type 0
 Leads users = IsPath (IsUser users)
 
 -- the waiting users of a node are marked, and so are those of each newly marked node
-pub record HoldsMore (users : List (List ℕ)) (states : List JobState) (place : ℕ) (old new : List Bool) : Type 0 where
+pub record MarksMore (users : List (List ℕ)) (states : List JobState) (place : ℕ) (old new : List Bool) : Type 0 where
   pub same : length new ≡ length old
   pub stays : (user : ℕ) → IsMarked old user → IsMarked new user
   pub found : (user : ℕ) → IsMarked new user → IsMarked old user ⊎ ((state_at states user ≡ Waiting) × Leads users user place)
@@ -73,7 +73,7 @@ pub record HoldsMore (users : List (List ℕ)) (states : List JobState) (place :
       → (need ≡ place) ⊎ (IsMarked new need × (IsMarked old need → ⊥)) → IsMarked new user
 
 -- the waiting nodes of a list are marked, and the newly marked ones are put to the work
-pub record HoldsUsers (list : List ℕ) (states : List JobState) (old new old_work new_work : List Bool) : Type 0 where
+pub record MarksUsers (list : List ℕ) (states : List JobState) (old new old_work new_work : List Bool) : Type 0 where
   pub same : length new ≡ length old
   pub room : length new_work ≡ length old_work
   pub stays : (user : ℕ) → IsMarked old user → IsMarked new user

@@ -14,8 +14,8 @@ abbrev pub first_state : PlanNode → JobState
 first_state node = state_by node.unbuildable (is_installed node.kind) false
 
 -- the places of the nodes with the identifiers that a node lists; none for an installed node
-abbrev pub wanted : {S : Type 0} → IndexMap (List ℕ) (List ℕ) S → PlanNode → List ℕ
-wanted places node =
+abbrev pub listed_places : {S : Type 0} → IndexMap (List ℕ) (List ℕ) S → PlanNode → List ℕ
+listed_places places node =
     if is_installed node.kind then [] else flat_map (items_at same_text places) node.libs ++ flat_map (items_at same_text places) node.tools ++ flat_map (items_at same_text places) node.setups
 
 -- an identifier has one more place

@@ -61,12 +61,12 @@ state_after nodes events place =
     (is_installed (node_at nodes place).kind || list_any (is_completion_of place) events) (list_any (is_start_of place) events)
 
 -- a node isn't installed, and has this identifier in one of its three lists
-abbrev pub wants : PlanNode → List ℕ → Bool
-wants node id = not (is_installed node.kind) && list_any (same_text id) (node.libs ++ node.tools ++ node.setups)
+abbrev pub lists_id : PlanNode → List ℕ → Bool
+lists_id node id = not (is_installed node.kind) && list_any (same_text id) (node.libs ++ node.tools ++ node.setups)
 
 -- a node needs each earlier one whose identifier it lists
 abbrev pub NeedsNode : List PlanNode → ℕ → ℕ → Type 0
-NeedsNode nodes place need = (need < place) × (wants (node_at nodes place) (node_at nodes need).id ≡ true)
+NeedsNode nodes place need = (need < place) × (lists_id (node_at nodes place) (node_at nodes need).id ≡ true)
 
 -- a node waits, and all its needs are completed
 pub record IsReady (nodes : List PlanNode) (events : List Event) (place : ℕ) : Type 0 where
@@ -111,17 +111,17 @@ IsStart nodes slots events (Err NoneReady) = (running_after nodes events ≢ slo
 IsStart nodes slots events (Err NotRunning) = ⊥
 
 -- the right reply to the report that the node at a place is completed or has failed
-abbrev pub IsEnd : List PlanNode → List Event → ℕ → Result ⊤ JobFault → Type 0
-IsEnd nodes events place (Ok accepted) = Runs nodes events place
-IsEnd nodes events place (Err NotRunning) = Runs nodes events place → ⊥
-IsEnd nodes events place (Err NoneReady) = ⊥
-IsEnd nodes events place (Err NoSlot) = ⊥
+abbrev pub IsReportReply : List PlanNode → List Event → ℕ → Result ⊤ JobFault → Type 0
+IsReportReply nodes events place (Ok accepted) = Runs nodes events place
+IsReportReply nodes events place (Err NotRunning) = Runs nodes events place → ⊥
+IsReportReply nodes events place (Err NoneReady) = ⊥
+IsReportReply nodes events place (Err NoSlot) = ⊥
 
 -- the event's reply is right after these events
 abbrev pub IsRight : List PlanNode → ℕ → List Event → Event → Type 0
 IsRight nodes slots events (starts reply) = IsStart nodes slots events reply
-IsRight nodes slots events (completes place reply) = IsEnd nodes events place reply
-IsRight nodes slots events (fails place reply) = IsEnd nodes events place reply
+IsRight nodes slots events (completes place reply) = IsReportReply nodes events place reply
+IsRight nodes slots events (fails place reply) = IsReportReply nodes events place reply
 
 -- the reply of each event is right
 abbrev pub IsHistory : List PlanNode → ℕ → List Event → Type 0

@@ -5,7 +5,7 @@ use Rattle.plan_nodes.specs.declared.node.NodeKind.TheVariants.{Installed, Store
 use Rattle.plan_nodes.specs.declared.node.PlanNode.{PlanNode}
 use Rattle.plan_jobs.specs.declared.job.JobFault.TheVariants.{NotRunning}
 use Rattle.plan_jobs.specs.declared.job.JobState.TheVariants.{Waiting, Running, Completed, Failed}
-use Rattle.plan_jobs.specs.Events.{completes, fails, starts, running_after, states_after, wants}
+use Rattle.plan_jobs.specs.Events.{completes, fails, starts, running_after, states_after, lists_id}
 
 abbrev node : NodeKind → Bool → List ℕ → List (List ℕ) → PlanNode
 node kind unbuildable id needs = record {
@@ -39,8 +39,8 @@ after_both : states_after nodes (starts (Ok 1) ∷ starts (Ok 2) ∷ fails 2 (Ok
 after_both = refl
 
 -- an installed node needs nothing
-there_wants_nothing : wants (node Installed false (codes "a") (codes "x" ∷ [])) (codes "x") ≡ false
+there_wants_nothing : lists_id (node Installed false (codes "a") (codes "x" ∷ [])) (codes "x") ≡ false
 there_wants_nothing = refl
 
-wants_its_library : wants (node Store false (codes "b") (codes "a" ∷ [])) (codes "a") ≡ true
+wants_its_library : lists_id (node Store false (codes "b") (codes "a" ∷ [])) (codes "a") ≡ true
 wants_its_library = refl

@@ -1,6 +1,6 @@
 // Marks of held nodes. A held node waits, and needs a failed one, directly or through others.
 ghost use Rattle.std.specs.Prelude.{◌≡◌, ◌<◌, ◌≤◌, [], ◌∷◌, length, All, IfOk};
-ghost use Rattle.plan_jobs.specs.Board.{AreBegun, AreHeld, HasFailed, HoldsMore, HoldsUsers};
+ghost use Rattle.plan_jobs.specs.Board.{AreBegun, AreHeld, HasFailed, MarksMore, MarksUsers};
 ghost use Rattle.plan_jobs.specs.Marks.{NoneMarked, TakesLeast};
 
 use crate::job::JobState;
@@ -31,14 +31,14 @@ pub(crate) fn held_at_first(
     let mut to_go = Marks::new(alloc, states.len())?;
     for place in 0..states.len() {
         if states[place] == JobState::Failed {
-            hold(users, states, &mut held, &mut to_go, place);
+            mark_held(users, states, &mut held, &mut to_go, place);
         }
     }
     Ok(Held { held, to_go })
 }
 
 /// Marks the waiting users of a node, then the waiting users of each newly marked node.
-pub(crate) fn hold(
+pub(crate) fn mark_held(
     users: &[List<usize>],
     states: &[JobState],
     held: &mut List<bool>,
@@ -50,7 +50,7 @@ pub(crate) fn hold(
     requires room { length states.now ≤ length to_go.old }
     requires idle { NoneMarked to_go.old }
     requires place { place < length states.now }
-    ensures more { HoldsMore users.now states.now place held.old held.new }
+    ensures more { MarksMore users.now states.now place held.old held.new }
     ensures room { length to_go.new ≡ length to_go.old }
     ensures idle { NoneMarked to_go.new }
 {
@@ -76,7 +76,7 @@ fn hold_users(users: &[usize], states: &[JobState], held: &mut List<bool>, to_go
     requires within { All (λ user. user < length states.now) users.now }
     requires count { length held.old ≡ length states.now }
     requires room { length states.now ≤ length to_go.old }
-    ensures { HoldsUsers users.now states.now held.old held.new to_go.old to_go.new }
+    ensures { MarksUsers users.now states.now held.old held.new to_go.old to_go.new }
 {
     for user in users {
         hold_user(*user, states, held, to_go);
@@ -87,7 +87,7 @@ fn hold_user(user: usize, states: &[JobState], held: &mut List<bool>, to_go: &mu
     requires within { user < length states.now }
     requires count { length held.old ≡ length states.now }
     requires room { length states.now ≤ length to_go.old }
-    ensures { HoldsUsers (user ∷ []) states.now held.old held.new to_go.old to_go.new }
+    ensures { MarksUsers (user ∷ []) states.now held.old held.new to_go.old to_go.new }
 {
     if states[user] == JobState::Waiting && !held.as_slice()[user] {
         held.set(user, true);

@@ -3,13 +3,13 @@ ghost use Rattle.std.specs.Prelude.{◌≡◌, ◌<◌, ◌++◌, ◌↔◌, ℕ
 ghost use Rattle.plan_nodes.specs.declared.node.PlanNode.{PlanNode};
 ghost use Rattle.plan_jobs.specs.declared.job.JobFault.TheVariants.{NotRunning};
 ghost use Rattle.plan_jobs.specs.declared.job.JobState.TheVariants.{Running};
-ghost use Rattle.plan_jobs.specs.Events.{Event, IsEnd, IsHeld, IsStart, completes, fails, starts, state_after};
+ghost use Rattle.plan_jobs.specs.Events.{Event, IsReportReply, IsHeld, IsStart, completes, fails, starts, state_after};
 ghost use Rattle.plan_jobs.specs.Board.{AreAfter, ForItsEvents, state_at};
 
-use crate::holding::{held_at_first, hold};
+use crate::holding::{held_at_first, mark_held};
 use crate::job::{JobFault, JobState};
 use crate::marks::Marks;
-use crate::meeting::{meet, ready_at_first};
+use crate::meeting::{count_down, ready_at_first};
 use crate::needs::Needs;
 use plan_nodes::PlanNode;
 use plan_types::{List, NoMemory};
@@ -103,14 +103,14 @@ impl Jobs {
 
     /// Reports that a running node is completed.
     pub fn completed(&mut self, place: u64) -> Result<(), JobFault>
-        ensures reply { ForItsEvents self.old (λ nodes slots events. IsEnd nodes events place result) }
+        ensures reply { ForItsEvents self.old (λ nodes slots events. IsReportReply nodes events place result) }
         ensures after { ForItsEvents self.old (λ nodes slots events. AreAfter nodes slots (events ++ completes place result ∷ []) self.new) }
         ensures err { OnErr result (self.new ≡ self.old) }
     {
         let place = running_place(self.states.as_slice(), place)?;
         self.states.set(place, JobState::Completed);
         self.running -= 1;
-        meet(
+        count_down(
             self.users[place].as_slice(),
             self.states.as_slice(),
             &mut self.unmet,
@@ -121,14 +121,14 @@ impl Jobs {
 
     /// Reports that a running node has failed.
     pub fn failed(&mut self, place: u64) -> Result<(), JobFault>
-        ensures reply { ForItsEvents self.old (λ nodes slots events. IsEnd nodes events place result) }
+        ensures reply { ForItsEvents self.old (λ nodes slots events. IsReportReply nodes events place result) }
         ensures after { ForItsEvents self.old (λ nodes slots events. AreAfter nodes slots (events ++ fails place result ∷ []) self.new) }
         ensures err { OnErr result (self.new ≡ self.old) }
     {
         let place = running_place(self.states.as_slice(), place)?;
         self.states.set(place, JobState::Failed);
         self.running -= 1;
-        hold(
+        mark_held(
             self.users.as_slice(),
             self.states.as_slice(),
             &mut self.held,

@@ -2,7 +2,7 @@
 ghost use Rattle.std.specs.Prelude.{◌≡◌, ◌<◌, ◌≤◌, ℕ, List, Result, ⊤, length};
 ghost use Rattle.plan_nodes.specs.declared.node.PlanNode.{PlanNode};
 ghost use Rattle.plan_jobs.specs.declared.job.JobFault.{JobFault};
-ghost use Rattle.plan_jobs.specs.Events.{Event, IsEnd, IsHistory, IsStart, running_after};
+ghost use Rattle.plan_jobs.specs.Events.{Event, IsReportReply, IsHistory, IsStart, running_after};
 ghost use Rattle.plan_jobs.specs.Laws.{HasEnded, IsAtRest, KeepsHeld, StartsAfterNeeds, StartsNoneHeld, StartsOnce};
 
 /// When a node starts, all its needs are completed.
@@ -40,5 +40,5 @@ pub fn one_reply()
     ensures start { (nodes : List PlanNode) (slots : ℕ) (events : List Event) (a b : Result ℕ JobFault)
         → IsStart nodes slots events a → IsStart nodes slots events b → a ≡ b }
     ensures end { (nodes : List PlanNode) (events : List Event) (place : ℕ) (a b : Result ⊤ JobFault)
-        → IsEnd nodes events place a → IsEnd nodes events place b → a ≡ b }
+        → IsReportReply nodes events place a → IsReportReply nodes events place b → a ≡ b }
 {}

@@ -1,7 +1,7 @@
 //! The build slots of a plan, driven by events. In go the nodes of a plan and a number of slots. Then a build tool asks
 //! for the next node to start, and reports completed and failed nodes. A node starts at most once, after all its needs
 //! are completed, and never if it needs a failed node. At most as many nodes run as there are slots. These laws are in
-//! `laws`; each reply is the only right one (`IsStart`, `IsEnd`).
+//! `laws`; each reply is the only right one (`IsStart`, `IsReportReply`).
 #![tactic(auto)]
 
 mod holding;

@@ -27,7 +27,7 @@ pub(crate) fn ready_at_first(
 }
 
 /// Counts one need of each of these users as completed. Waiting users with no other such need become ready.
-pub(crate) fn meet(users: &[usize], states: &[JobState], unmet: &mut List<usize>, ready: &mut Marks)
+pub(crate) fn count_down(users: &[usize], states: &[JobState], unmet: &mut List<usize>, ready: &mut Marks)
     requires within { All (λ user. user < length states.now) users.now }
     requires count { length unmet.old ≡ length states.now }
     requires open { (user : ℕ) → times user users.now ≤ slice_index unmet.old user }
@@ -39,12 +39,12 @@ pub(crate) fn meet(users: &[usize], states: &[JobState], unmet: &mut List<usize>
     ensures ready { AreReady states.now unmet.new ready.new }
 {
     for user in users {
-        meet_one(*user, states, unmet, ready);
+        count_down_one(*user, states, unmet, ready);
     }
 }
 
 // Counts one need of a user as completed.
-fn meet_one(user: usize, states: &[JobState], unmet: &mut List<usize>, ready: &mut Marks)
+fn count_down_one(user: usize, states: &[JobState], unmet: &mut List<usize>, ready: &mut Marks)
     requires within { user < length states.now }
     requires count { length unmet.old ≡ length states.now }
     requires open { 0 < slice_index unmet.old user }

@@ -4,7 +4,7 @@ ghost use Rattle.keyed_lists.specs.Lists.{items_at};
 ghost use Rattle.plan_types.specs.Bytes.{same_text};
 ghost use Rattle.plan_jobs.specs.Events.{is_installed};
 ghost use Rattle.plan_jobs.specs.Board.{is_completed, is_open, with_user};
-ghost use Rattle.plan_jobs.specs.Building.{AddsPlace, AreOf, first_state, wanted};
+ghost use Rattle.plan_jobs.specs.Building.{AddsPlace, AreOf, first_state, listed_places};
 
 use crate::job::JobState;
 use keyed_lists::{Lists, items_at, push_at};
@@ -40,17 +40,17 @@ impl Needs {
 
     // Adds a node behind the others.
     fn add(&mut self, alloc: Global, node: &PlanNode) -> Result<(), NoMemory>
-        requires wanted { All (λ place. place < length self.old.states) (wanted self.old.places node.now) }
+        requires listed_places { All (λ place. place < length self.old.states) (listed_places self.old.places node.now) }
         requires users { length self.old.users.items ≡ length self.old.states }
         ensures places { OnOk result (AddsPlace self.old.places node.now.id (length self.old.states) self.new.places) }
-        ensures users { OnOk result (self.new.users.items ≡ with_user (length self.old.states) self.old.users.items (wanted self.old.places node.now) ++ [] ∷ []) }
+        ensures users { OnOk result (self.new.users.items ≡ with_user (length self.old.states) self.old.users.items (listed_places self.old.places node.now) ++ [] ∷ []) }
         ensures states { OnOk result (self.new.states ≡ self.old.states ++ first_state node.now ∷ []) }
-        ensures unmet { OnOk result (self.new.unmet ≡ self.old.unmet ++ count_by (is_open self.old.states) (wanted self.old.places node.now) ∷ []) }
+        ensures unmet { OnOk result (self.new.unmet ≡ self.old.unmet ++ count_by (is_open self.old.states) (listed_places self.old.places node.now) ∷ []) }
     {
         let place = self.states.len();
-        let wanted = wanted(alloc, &self.places, node)?;
-        let unmet = count_open(self.states.as_slice(), wanted.as_slice());
-        add_user(&mut self.users, place, wanted.as_slice())?;
+        let listed_places = listed_places(alloc, &self.places, node)?;
+        let unmet = count_open(self.states.as_slice(), listed_places.as_slice());
+        add_user(&mut self.users, place, listed_places.as_slice())?;
         self.users.push(List::new(alloc))?;
         self.states.push(first_state(node))?;
         self.unmet.push(unmet)?;
@@ -59,12 +59,12 @@ impl Needs {
 }
 
 // The places of the nodes with the identifiers that a node lists; none for an installed node.
-fn wanted(
+fn listed_places(
     alloc: Global,
     places: &Lists<Text, usize>,
     node: &PlanNode,
 ) -> Result<List<usize>, NoMemory>
-    ensures { IfOk result (λ found. found ≡ wanted places.now node.now) }
+    ensures { IfOk result (λ found. found ≡ listed_places places.now node.now) }
 {
     let mut found = List::new(alloc);
     if !is_installed(node.kind) {

@@ -14,21 +14,21 @@ use Rattle.plan_nodes.specs.declared.node.NodeKind.{NodeKind}
 use Rattle.plan_nodes.specs.declared.node.NodeKind.TheVariants as kind
 use Rattle.plan_nodes.specs.declared.node.PlanNode.{PlanNode}
 use Rattle.plan_components.specs.declared.node.Node.{Node}
-use Rattle.plan_components.specs.Chosen.{Selection, holds}
+use Rattle.plan_components.specs.Chosen.{Selection, condition_holds}
 use Rattle.plan_lines.specs.declared.needed.Needed.{Needed}
 use Rattle.plan_lines.specs.ComponentName.{piece_name}
 use Rattle.plan_lines.specs.Line.{id_by, source_kind, source_line, source_with_id, with_id}
-use Rattle.plan_lines.specs.Plain.{AreOpen}
+use Rattle.plan_lines.specs.Plain.{AreAlwaysBuildable}
 
-always-holds : (env : Env) (flags : List FlagSet) → holds env flags Always ≡ true
-always-holds env flags = ap (is_wanted true) (ap (value env (flag_in flags)) (sym rolls-Always) ∙ fold-roll-Cond Tri (value_step env (flag_in flags)) layer.Always)
+always-condition_holds : (env : Env) (flags : List FlagSet) → condition_holds env flags Always ≡ true
+always-condition_holds env flags = ap (is_wanted true) (ap (value env (flag_in flags)) (sym rolls-Always) ∙ fold-roll-Cond Tri (value_step env (flag_in flags)) layer.Always)
 
-pub never-barred : (env : Env) (flags : List FlagSet) (cond : Cond) → cond ≡ Always → not (holds env flags cond) ≡ false
-never-barred env flags cond is = ap (λ c. not (holds env flags c)) is ∙ ap not (always-holds env flags)
+pub never-barred : (env : Env) (flags : List FlagSet) (cond : Cond) → cond ≡ Always → not (condition_holds env flags cond) ≡ false
+never-barred env flags cond is = ap (λ c. not (condition_holds env flags c)) is ∙ ap not (always-condition_holds env flags)
 
 -- the line is the same under all flags
 pub same-line : (selection : Selection) (node : Node) (flags others : List FlagSet) (d : Description) (needed : Needed) → source_kind selection node ≡ kind.Local
-    → AreOpen d.components node.piece → source_with_id selection node flags d needed ≡ source_with_id selection node others d needed
+    → AreAlwaysBuildable d.components node.piece → source_with_id selection node flags d needed ≡ source_with_id selection node others d needed
 same-line selection node flags others d needed local built =
     let with : Bool → PlanNode = λ unbuildable. record {
       kind = source_kind selection node;

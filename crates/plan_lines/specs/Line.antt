@@ -16,7 +16,7 @@ use Rattle.cabal_problem.specs.Variables.{is_top}
 use Rattle.plan_components.specs.declared.node.Node.{Node}
 use Rattle.plan_components.specs.declared.node.Piece.{Piece}
 use Rattle.plan_components.specs.declared.node.Piece.TheVariants.{Whole, One}
-use Rattle.plan_components.specs.Chosen.{Selection, body_at, chosen_flags, holds}
+use Rattle.plan_components.specs.Chosen.{Selection, body_at, chosen_flags, condition_holds}
 use Rattle.plan_lines.specs.ComponentName.{piece_name}
 use Rattle.plan_lines.specs.declared.needed.Needed.{Needed}
 
@@ -29,14 +29,14 @@ source_kind selection node = if is_top node.qual && (package_at selection.packag
 -- ---- unbuildable nodes
 
 -- whether a component is unbuildable under these flags; false if there is none
-abbrev pub is_barred_one : Env → List FlagSet → Option Component → Bool
-is_barred_one env flags None = false
-is_barred_one env flags (Some component) = not (holds env flags component.buildable)
+abbrev pub is_unbuildable_one : Env → List FlagSet → Option Component → Bool
+is_unbuildable_one env flags None = false
+is_unbuildable_one env flags (Some component) = not (condition_holds env flags component.buildable)
 
 -- A package that is built as a whole is never unbuildable: it builds the components that it can.
 abbrev pub is_unbuildable : Env → List FlagSet → List Component → Piece → Bool
 is_unbuildable env flags components Whole = false
-is_unbuildable env flags components (One place) = is_barred_one env flags (slice_get components place)
+is_unbuildable env flags components (One place) = is_unbuildable_one env flags (slice_get components place)
 
 -- ---- identifiers
 

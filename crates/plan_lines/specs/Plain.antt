@@ -4,12 +4,12 @@ use Rattle.plan_types.specs.declared.condition.Env.{Env}
 use Rattle.plan_types.specs.declared.condition.FlagSet.{FlagSet}
 use Rattle.plan_types.specs.declared.description.Component.{Component}
 use Rattle.plan_components.specs.declared.node.Piece.{Piece}
-use Rattle.plan_lines.specs.Line.{is_barred_one, is_unbuildable}
+use Rattle.plan_lines.specs.Line.{is_unbuildable_one, is_unbuildable}
 
 -- a component is buildable under all flags
-abbrev pub IsOpenOne : Option Component → Type 0
-IsOpenOne component = (env : Env) (flags : List FlagSet) → is_barred_one env flags component ≡ false
+abbrev pub IsAlwaysBuildable : Option Component → Type 0
+IsAlwaysBuildable component = (env : Env) (flags : List FlagSet) → is_unbuildable_one env flags component ≡ false
 
 -- a piece of a package is buildable under all flags
-abbrev pub AreOpen : List Component → Piece → Type 0
-AreOpen components piece = (env : Env) (flags : List FlagSet) → is_unbuildable env flags components piece ≡ false
+abbrev pub AreAlwaysBuildable : List Component → Piece → Type 0
+AreAlwaysBuildable components piece = (env : Env) (flags : List FlagSet) → is_unbuildable env flags components piece ≡ false

@@ -8,8 +8,8 @@ ghost use Rattle.cabal_problem.specs.Variables.{is_top};
 ghost use Rattle.plan_nodes.specs.declared.node.NodeKind.TheVariants.{Local};
 ghost use Rattle.plan_types.specs.Packages.{package_at};
 ghost use Rattle.plan_types.specs.declared.condition.Cond.TheVariants.{Always};
-ghost use Rattle.plan_lines.specs.Plain.{AreOpen, IsOpenOne};
-ghost use Rattle.plan_lines.specs.Line.{is_barred_one, is_unbuildable, line_of, source_kind, source_line, source_with_id, unit_line};
+ghost use Rattle.plan_lines.specs.Plain.{AreAlwaysBuildable, IsAlwaysBuildable};
+ghost use Rattle.plan_lines.specs.Line.{is_unbuildable_one, is_unbuildable, line_of, source_kind, source_line, source_with_id, unit_line};
 
 use crate::component_name::piece_name;
 use crate::identifier::id_by;
@@ -88,7 +88,7 @@ fn plain_line(
     needed: Needed,
 ) -> Result<PlanNode, NoMemory>
     requires local { source_kind (selection_of chosen.now) node ≡ Local }
-    requires built { AreOpen d.now.components node.piece }
+    requires built { AreAlwaysBuildable d.now.components node.piece }
     ensures { IfOk result (λ line. line ≡ source_with_id (selection_of chosen.now) node
         (chosen_flags (selection_of chosen.now) node.qual node.«package» d.now) d.now needed) }
 {
@@ -99,7 +99,7 @@ fn plain_line(
 }
 
 fn is_always_built(components: &[Component], piece: Piece) -> bool
-    ensures { IsTrue result → AreOpen components.now piece }
+    ensures { IsTrue result → AreAlwaysBuildable components.now piece }
 {
     match piece {
         Piece::Whole => true,
@@ -108,7 +108,7 @@ fn is_always_built(components: &[Component], piece: Piece) -> bool
 }
 
 fn is_open_one(component: Option<&Component>) -> bool
-    ensures { IsTrue result → IsOpenOne (option_copied component.entry) }
+    ensures { IsTrue result → IsAlwaysBuildable (option_copied component.entry) }
 {
     match component {
         None => true,
@@ -195,13 +195,13 @@ fn is_unbuildable(
 {
     match piece {
         Piece::Whole => false,
-        Piece::One(place) => is_barred_one(chosen, flags, components.get(place as usize)),
+        Piece::One(place) => is_unbuildable_one(chosen, flags, components.get(place as usize)),
     }
 }
 
-fn is_barred_one(chosen: &Chosen<'_>, flags: &List<FlagSet>, component: Option<&Component>) -> bool
+fn is_unbuildable_one(chosen: &Chosen<'_>, flags: &List<FlagSet>, component: Option<&Component>) -> bool
     requires { each_once flags.now ≡ true }
-    ensures { result ≡ is_barred_one (selection_of chosen.now).env flags.now (option_copied component.entry) }
+    ensures { result ≡ is_unbuildable_one (selection_of chosen.now).env flags.now (option_copied component.entry) }
 {
     match component {
         None => false,

@@ -35,9 +35,9 @@ use Rattle.solver_index.specs.Orders.{AreOrders}
 use Rattle.conflict_shrink.specs.declared.shrinking.Shrunk.{Shrunk as ShrunkSet}
 use Rattle.conflict_shrink.specs.Shrinking.{IsFreed, IsTight}
 use Rattle.conflict_shrink.proofs.Sets.{zip-more}
-use Rattle.plan_search.specs.Blame.{IsBlame, IsPart, MeansBlame, blame_of}
+use Rattle.plan_search.specs.Blame.{IsBlame, IsBlameOfSet, MeansBlame, blame_of}
 use Rattle.plan_search.specs.Finding.{IsFindingOf, guide_of}
-use Rattle.plan_search.specs.Meaning.{AreToBlame, IsBlamed, IsFirstTrail, IsValidTrail, IsWholeProblem, Means, MeansFailure, MeansOutcome, MeansTrail, MeetsLimit}
+use Rattle.plan_search.specs.Meaning.{AreToBlame, IsBlamed, IsFirstTrail, IsValidTrail, IsWholeProblem, Means, MeansFailure, MeansOutcome, MeansTrail, ReachesLimit}
 use Rattle.plan_search.specs.declared.blame.Blame.{Blame}
 use Rattle.plan_search.specs.declared.blame.Blame.TheVariants.{Unasked, Shrunk, TooLong}
 use Rattle.plan_search.specs.declared.search.Finding.{Finding}
@@ -121,7 +121,7 @@ module _ (valid : ValidAsWhole) (index : Index) (settings : Settings) (sound : I
         (λ v choices h. record { once = h.once; holds = (one.holds (has (without v shrunk.set)) (value_in choices)).1 h.holds }) shrunk.set shrunk.maps tight.freed;
   }
 
-  part-whole : (set : List Var) (blame : Blame) → IsPart (general p) settings.limit set blame → IsPart whole settings.limit set blame
+  part-whole : (set : List Var) (blame : Blame) → IsBlameOfSet (general p) settings.limit set blame → IsBlameOfSet whole settings.limit set blame
   part-whole set Unasked h = h
   part-whole set (Shrunk shrunk) h = tight-whole set shrunk h
   part-whole set (TooLong spent) h = h
@@ -189,7 +189,7 @@ module _ (valid : ValidAsWhole) (index : Index) (settings : Settings) (sound : I
         absurd none
     at-limit picking (At most) ended = (most, refl)
 
-    gave-up : (picking : Picking) → (guided_answer (guide_of picking) p settings.limit).ended ≡ GaveUp → MeetsLimit picking index settings names
+    gave-up : (picking : Picking) → (guided_answer (guide_of picking) p settings.limit).ended ≡ GaveUp → ReachesLimit picking index settings names
     gave-up picking ended =
         let limited = at-limit picking settings.limit ended in
         record {

@@ -23,14 +23,14 @@ blame_of minimize p limit (outcome.NoPlan set counts) = if minimize then blame_a
 blame_of minimize p limit (outcome.GaveUp counts) = Unasked
 
 -- the blame of a set that was shrunk: a minimal part that admits none, or, only under a limit, that it took too long
-abbrev pub IsPart : General → Limit → List Var → Blame → Type 0
-IsPart g limit set Unasked = ⊥
-IsPart g limit set (Shrunk shrunk) = IsTight g set shrunk
-IsPart g limit set (TooLong spent) = (most : ℕ) × (limit ≡ At most)
+abbrev pub IsBlameOfSet : General → Limit → List Var → Blame → Type 0
+IsBlameOfSet g limit set Unasked = ⊥
+IsBlameOfSet g limit set (Shrunk shrunk) = IsTight g set shrunk
+IsBlameOfSet g limit set (TooLong spent) = (most : ℕ) × (limit ≡ At most)
 
 -- the blame of a set: that of its shrinking, or `Unasked` without a request
 abbrev pub IsBlame : Bool → General → Limit → List Var → Blame → Type 0
-IsBlame true g limit set blame = IsPart g limit set blame
+IsBlame true g limit set blame = IsBlameOfSet g limit set blame
 IsBlame false g limit set blame = blame ≡ Unasked
 
 -- the blame of an outcome; `Unasked` if the search didn't fail

@@ -61,7 +61,7 @@ pub record AreToBlame (index : Index) (settings : Settings) (names : NameTable) 
   pub admits_none : AdmitsNone problem (has set)
 
 -- There is a limit, and a search over the problem gives up at it.
-pub record MeetsLimit (picking : Picking) (index : Index) (settings : Settings) (names : NameTable) : Type 0 where
+pub record ReachesLimit (picking : Picking) (index : Index) (settings : Settings) (names : NameTable) : Type 0 where
   pub problem : Problem
   pub problem_is : IsProblemOf index settings.project names problem
   pub most : ℕ
@@ -72,7 +72,7 @@ pub record MeetsLimit (picking : Picking) (index : Index) (settings : Settings) 
 abbrev pub MeansOutcome : Picking → Index → Settings → NameTable → Outcome → Type 0
 MeansOutcome picking index settings names (outcome.Found trail counts) = MeansTrail picking index settings names trail
 MeansOutcome picking index settings names (outcome.NoPlan set counts) = AreToBlame index settings names set
-MeansOutcome picking index settings names (outcome.GaveUp counts) = MeetsLimit picking index settings names
+MeansOutcome picking index settings names (outcome.GaveUp counts) = ReachesLimit picking index settings names
 
 -- the blame of these variables, by the problem with whole conditions
 pub record IsBlamed (minimize : Bool) (index : Index) (settings : Settings) (names : NameTable) (set : List Var) (blame : Blame) : Type 0 where

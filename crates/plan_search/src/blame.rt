@@ -4,7 +4,7 @@ ghost use Rattle.choice_problem.specs.Answer.{guided_answer, outcome_of};
 ghost use Rattle.choice_problem.specs.General.{general};
 ghost use Rattle.conflict_shrink.specs.Restricted.{CanBeShrunk};
 ghost use Rattle.conflict_shrink.specs.Shrinking.{shrinking};
-ghost use Rattle.plan_search.specs.Blame.{IsPart, MeansBlame, blame_at, blame_of};
+ghost use Rattle.plan_search.specs.Blame.{IsBlameOfSet, MeansBlame, blame_at, blame_of};
 ghost use Rattle.plan_search.specs.Finding.{guide_of};
 ghost use Rattle.plan_search.specs.declared.search.Picking.{Picking};
 
@@ -62,7 +62,7 @@ fn part_of<C: Choices, L: Ledger>(
 ) -> Result<Blame, NoMemory>
     requires { CanBeShrunk (C.problem problem.now) set.now }
     ensures blame { IfOk result (λ blame. blame ≡ blame_at (shrinking (C.problem problem.now) set.now budget).ended) }
-    ensures means { IfOk result (IsPart (general (C.problem problem.now)) budget set.now) }
+    ensures means { IfOk result (IsBlameOfSet (general (C.problem problem.now)) budget set.now) }
 {
     match shrink(alloc, problem, set, budget, steps) {
         Ok(shrunk) => Ok(Blame::Shrunk(shrunk)),

@@ -38,7 +38,7 @@ use Rattle.project_file.specs.declared.words.FieldKind.TheVariants as kinds
 use Rattle.project_file.specs.declared.words.FieldWord.{FieldWord}
 use Rattle.project_file.specs.declared.words.FieldWord.TheVariants as fields
 use Rattle.project_file.specs.declared.words.SectionWord.{SectionWord}
-use Rattle.constraint_text.specs.Faults.{BadAsNone}
+use Rattle.constraint_text.specs.Faults.{IsBadConstraint}
 use Rattle.text_grammar.specs.Outcome.{Read}
 use Rattle.project_file.specs.declared.words.SectionWord.TheVariants as sections
 
@@ -54,17 +54,17 @@ module _ {A : Type 0} (S : A → Type 0) (F : Cause → Type 0) (one : (a b : A)
 
 one_named : (as' : _) (text : List ℕ) (x y : Said) → IsRead as' (NamedRanges text) (NamedFault text) x → IsRead as' (NamedRanges text) (NamedFault text) y → x ≡ y
 one_named as' text =
-    one_said_of (NamedRanges text) (NamedFault text) (only.one_reading NamedEntry named_settled.one text) (only.one_first NamedEntry (BadAsNone NamedEntry) named_settled text)
-    (only.reading_or_fault NamedEntry (BadAsNone NamedEntry) named_settled.not_both text) as'
+    one_said_of (NamedRanges text) (NamedFault text) (only.one_reading NamedEntry named_settled.one text) (only.one_first NamedEntry (IsBadConstraint NamedEntry) named_settled text)
+    (only.reading_or_fault NamedEntry (IsBadConstraint NamedEntry) named_settled.not_both text) as'
 
 one_constraints : (as' : _) (text : List ℕ) (x y : Said) → IsRead as' (Constraints text) (ConstraintsFault text) x → IsRead as' (Constraints text) (ConstraintsFault text) y → x ≡ y
 one_constraints as' text =
-    one_said_of (Constraints text) (ConstraintsFault text) (only.one_reading ConstraintEntry constraint_settled.one text) (only.one_first ConstraintEntry (BadAsNone ConstraintEntry) constraint_settled text)
-    (only.reading_or_fault ConstraintEntry (BadAsNone ConstraintEntry) constraint_settled.not_both text) as'
+    one_said_of (Constraints text) (ConstraintsFault text) (only.one_reading ConstraintEntry constraint_settled.one text) (only.one_first ConstraintEntry (IsBadConstraint ConstraintEntry) constraint_settled text)
+    (only.reading_or_fault ConstraintEntry (IsBadConstraint ConstraintEntry) constraint_settled.not_both text) as'
 
 one_relax : (as' : _) (text : List ℕ) (x y : Said) → IsRead as' (Relaxes text) (RelaxFault text) x → IsRead as' (Relaxes text) (RelaxFault text) y → x ≡ y
 one_relax as' text =
-    one_said_of (Relaxes text) (RelaxFault text) (λ a b r s. given_reading text r.each a r.entries r.is b s) (only.one_first RelaxEntry (BadAsNone RelaxEntry) relax_settled text)
+    one_said_of (Relaxes text) (RelaxFault text) (λ a b r s. given_reading text r.each a r.entries r.is b s) (only.one_first RelaxEntry (IsBadConstraint RelaxEntry) relax_settled text)
     (λ a cause r f. no_fault text r.each r.entries cause f) as'
 
 one_kind : (kind : FieldKind) (text : List ℕ) (x y : Said) → KindSays kind text x → KindSays kind text y → x ≡ y

@@ -2,13 +2,13 @@
 use Rattle.std.proofs.Common.{◌≡◌, ℕ, Bool, false, List, [], ◌∷◌, ◌++◌, refl, sym, ap, ◌∙◌}
 use Rattle.std.specs.Prelude.{Option, None, Some, unwrap_or}
 use Rattle.std.specs.Option.{option_or}
-use Rattle.text_grammar.specs.Last.{last_said}
+use Rattle.text_grammar.specs.Last.{last_given}
 use Rattle.text_grammar.proofs.LastSaid.{last_push as said_push}
 use Rattle.std.proofs.lemmas.Grind.{flat_map-append}
 use Rattle.std.proofs.lemmas.List.{append-nil}
 use Rattle.plan_types.specs.declared.limit.Limit.TheVariants.{At}
 use Rattle.plan_types.specs.declared.project.Project.{Project}
-use Rattle.project_file.specs.Project.{Given, Placed, all, given, given_at, last_or, project_from, turned}
+use Rattle.project_file.specs.Project.{Given, Placed, all, given, given_at, last_or, project_from, with_switch}
 use Rattle.project_file.specs.declared.part.Said.{Said}
 use Rattle.project_file.specs.declared.part.Said.TheVariants as said
 use Rattle.project_file.specs.declared.part.Switch.{Switch}
@@ -46,7 +46,7 @@ unwrap_either value (Some x) b = refl
 
 last_push : {A : Type 0} (value : A) (of : Given → Option A) (parts : List Placed) (part : Placed) → last_or value of (parts ++ part ∷ []) ≡ unwrap_or (of (given part)) (last_or value of parts)
 last_push value of parts part =
-    ap (λ o. unwrap_or o value) (said_push (λ p. of (given p)) parts part) ∙ unwrap_either value (of (given part)) (last_said (λ p. of (given p)) parts)
+    ap (λ o. unwrap_or o value) (said_push (λ p. of (given p)) parts part) ∙ unwrap_either value (of (given part)) (last_given (λ p. of (given p)) parts)
 
 all_push : {A : Type 0} (of : Given → List A) (parts : List Placed) (part : Placed) → all of (parts ++ part ∷ []) ≡ plus (all of parts) (of (given part))
 all_push of parts part =
@@ -79,7 +79,7 @@ goes path line {said = said} old is new-is before e =
 pub list_is : {A : Type 0} (as' : List A → Project) (old more : List A) {new : List A} → new ≡ old ++ more → as' new ≡ as' (plus old more)
 list_is as' old more e = ap as' (e ∙ sym (plus_is old more))
 
-pub turned_is : (path : List ℕ) (line : ℕ) (which : Switch) (on : Bool) (old : Project) → turned which on old ≡ joined old (given_at path line (said.Switch which on))
+pub turned_is : (path : List ℕ) (line : ℕ) (which : Switch) (on : Bool) (old : Project) → with_switch which on old ≡ joined old (given_at path line (said.Switch which on))
 turned_is path line Tests on old = refl
 turned_is path line Benchmarks on old = refl
 turned_is path line PreferOldest on old = refl

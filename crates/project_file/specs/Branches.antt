@@ -51,8 +51,8 @@ decided_of env (Ok cond) = decided env cond
 decided_of env (Err cause) = Err cause
 
 -- the value of a condition's text, or the cause of its fault
-abbrev pub Settles : Env → List ℕ → Result Bool Cause → Type 0
-Settles env text own = (read : Result Cond Cause) × Read (Stands V3_0 64 text) (FirstFault V3_0 64 text) read × (own ≡ decided_of env read)
+abbrev pub HasValue : Env → List ℕ → Result Bool Cause → Type 0
+HasValue env text own = (read : Result Cond Cause) × Read (Stands V3_0 64 text) (FirstFault V3_0 64 text) read × (own ≡ decided_of env read)
 
 -- `else` has no arguments
 abbrev pub bare : List ℕ → Result Bool Cause
@@ -61,8 +61,8 @@ bare (b ∷ bs) = Err BadField
 
 -- the value of a branch's own condition, or the cause why it has none
 abbrev pub Decides : Env → BranchWord → List ℕ → Result Bool Cause → Type 0
-Decides env If args own = Settles env args own
-Decides env Elif args own = Settles env args own
+Decides env If args own = HasValue env args own
+Decides env Elif args own = HasValue env args own
 Decides env Else args own = own ≡ bare args
 
 -- whether a condition has the value true

@@ -8,7 +8,7 @@ use Rattle.plan_types.specs.declared.limit.Limit.{Limit}
 use Rattle.plan_types.specs.declared.limit.Limit.TheVariants.{At}
 use Rattle.plan_types.specs.declared.project.Project.{Project}
 use Rattle.plan_types.specs.declared.project.ProjectEntry.{ProjectEntry}
-use Rattle.text_grammar.specs.Last.{last_said}
+use Rattle.text_grammar.specs.Last.{last_given}
 use Rattle.project_file.specs.declared.part.ProjectPart.{ProjectPart}
 use Rattle.project_file.specs.declared.part.Said.{Said}
 use Rattle.project_file.specs.declared.part.Said.TheVariants as said
@@ -91,7 +91,7 @@ given part = given_at part.path part.line part.said
 
 -- the last value that a part gives, or the default if none does
 abbrev pub last_or : {A : Type 0} → A → (Given → Option A) → List Placed → A
-last_or value of parts = unwrap_or (last_said (λ part. of (given part)) parts) value
+last_or value of parts = unwrap_or (last_given (λ part. of (given part)) parts) value
 
 -- the lists of all parts, joined in order
 abbrev pub all : {A : Type 0} → (Given → List A) → List Placed → List A
@@ -115,12 +115,12 @@ project_from parts = record {
 }
 
 -- the project with a switch set
-abbrev pub turned : Switch → Bool → Project → Project
-turned Tests on old = record old { tests = on }
-turned Benchmarks on old = record old { benchmarks = on }
-turned PreferOldest on old = record old { prefer_oldest = on }
-turned BootInstalls on old = record old { boot_installs = on }
+abbrev pub with_switch : Switch → Bool → Project → Project
+with_switch Tests on old = record old { tests = on }
+with_switch Benchmarks on old = record old { benchmarks = on }
+with_switch PreferOldest on old = record old { prefer_oldest = on }
+with_switch BootInstalls on old = record old { boot_installs = on }
 
 -- the new project is the old one with these parts added
-abbrev pub Takes : List Placed → Project → Project → Type 0
-Takes parts old new = (before : List Placed) → old ≡ project_from before → new ≡ project_from (before ++ parts)
+abbrev pub AddsParts : List Placed → Project → Project → Type 0
+AddsParts parts old new = (before : List Placed) → old ≡ project_from before → new ≡ project_from (before ++ parts)

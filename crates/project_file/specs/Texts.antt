@@ -52,11 +52,11 @@ pub record SaysOf (env : Env) (bytes : List ℕ) (outcome : Result (List Project
   pub comes : outcome ≡ unless_bad (first_fault parts) parts
 
 -- the outcome of a file without a tree: a fault of its layout
-pub record Misfits (bytes : List ℕ) (outcome : Result (List ProjectPart) At) : Type 0 where
+pub record HasLayoutFault (bytes : List ℕ) (outcome : Result (List ProjectPart) At) : Type 0 where
   pub at : At
   pub fault : IsFault bytes at.line at.cause
   pub comes : outcome ≡ Err at
 
 -- The parts of a file, or its first fault. A fault of the layout comes before all others.
 abbrev pub Reads : Env → List ℕ → Result (List ProjectPart) At → Type 0
-Reads env bytes outcome = Misfits bytes outcome ⊎ SaysOf env bytes outcome
+Reads env bytes outcome = HasLayoutFault bytes outcome ⊎ SaysOf env bytes outcome

@@ -1,6 +1,6 @@
 // A branch: whether it is taken, and its fault.
 ghost use Rattle.std.specs.Prelude.{◌≡◌, ◌||◌, ◌&&◌, not, IfOk};
-ghost use Rattle.project_file.specs.Branches.{Decides, Settles, bare, branch_fault, chain_behind, decided, fits, has_flag, holds, is_taken, is_yes, was_taken};
+ghost use Rattle.project_file.specs.Branches.{Decides, HasValue, bare, branch_fault, chain_behind, decided, fits, has_flag, holds, is_taken, is_yes, was_taken};
 
 use crate::part::Said;
 use crate::words::BranchWord;
@@ -36,7 +36,7 @@ fn bare(args: &[u8]) -> Result<bool, Cause>
 }
 
 fn settled(alloc: Global, env: &Env, args: &Text) -> Result<Result<bool, Cause>, NoMemory>
-    ensures { IfOk result (Settles env.now args.now) }
+    ensures { IfOk result (HasValue env.now args.now) }
 {
     match read_cond(alloc, args.as_bytes(), Spec::V3_0) {
         Ok(cond) => Ok(decided(alloc, env, &cond)),

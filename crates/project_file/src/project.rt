@@ -1,6 +1,6 @@
 // The project of the parts of all files.
 ghost use Rattle.std.specs.Prelude.{◌≡◌, ◌++◌, ◌∷◌, [], List, OnOk};
-ghost use Rattle.project_file.specs.Project.{Takes, entries_at, placed_all, placed_at, project_from, turned};
+ghost use Rattle.project_file.specs.Project.{AddsParts, entries_at, placed_all, placed_at, project_from, with_switch};
 
 use crate::part::{ProjectPart, Said, Switch};
 use plan_types::{Limit, List, NoMemory, Project, ProjectEntry, Text, Warning};
@@ -32,7 +32,7 @@ pub(crate) fn take_file(
     path: &Text,
     parts: List<ProjectPart>,
 ) -> Result<(), NoMemory>
-    ensures { OnOk result (Takes (placed_all path.now parts) project.old project.new) }
+    ensures { OnOk result (AddsParts (placed_all path.now parts) project.old project.new) }
 {
     for part in parts.into_vec() {
         take(project, path, part)?;
@@ -41,7 +41,7 @@ pub(crate) fn take_file(
 }
 
 fn take(project: &mut Project, path: &Text, part: ProjectPart) -> Result<(), NoMemory>
-    ensures { OnOk result (Takes (placed_at path.now part ∷ []) project.old project.new) }
+    ensures { OnOk result (AddsParts (placed_at path.now part ∷ []) project.old project.new) }
 {
     let ProjectPart { line, said } = part;
     match said {
@@ -95,7 +95,7 @@ fn warn(warnings: &mut List<Warning>, path: &Text, line: u32, word: Text) -> Res
 }
 
 fn turn(project: &mut Project, which: Switch, on: bool)
-    ensures { project.new ≡ turned which on project.old }
+    ensures { project.new ≡ with_switch which on project.old }
 {
     match which {
         Switch::Tests => project.tests = on,

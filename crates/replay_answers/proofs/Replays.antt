@@ -2,7 +2,7 @@
 use Rattle.std.proofs.Common.{◌≡◌, ℕ, List, [], ◌∷◌, ◌++◌, map, refl, sym, subst, append_assoc, append-nil}
 use Rattle.plan_nodes.specs.declared.node.PlanNode.{PlanNode}
 use Rattle.plan_jobs.specs.Events.{Event, IsRight}
-use Rattle.replay_text.specs.Replay.{IsReplay, asked, counts_line, told_text}
+use Rattle.replay_text.specs.Replay.{IsReplay, asked, counts_line, history_text}
 use Rattle.replay_text.specs.declared.event.JobEvent.{JobEvent}
 use Rattle.replay_answers.proofs.Replies.{some_reply}
 use Rattle.replay_answers.proofs.Standings.{completed_count, failed_count, held_count, running_count, waiting_count}
@@ -41,7 +41,7 @@ module _ (nodes : List PlanNode) (slots : ℕ) where
       let running = running_count nodes all.0 in
       let waiting = waiting_count nodes all.0 in
       let held = held_count nodes all.0 in (
-        told_text nodes all.0 ++ counts_line completed.0 failed.0 running.0 waiting.0 held.0,
+        history_text nodes all.0 ++ counts_line completed.0 failed.0 running.0 waiting.0 held.0,
         record {
           told = all.0;
           history = all.2;

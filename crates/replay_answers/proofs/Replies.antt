@@ -5,7 +5,7 @@ use Rattle.plan_nodes.specs.declared.node.PlanNode.{PlanNode}
 use Rattle.plan_jobs.specs.declared.job.JobFault.{JobFault}
 use Rattle.plan_jobs.specs.declared.job.JobFault.TheVariants.{NoneReady, NoSlot, NotRunning}
 use Rattle.plan_jobs.specs.declared.job.JobState.TheVariants.{Waiting, Completed}
-use Rattle.plan_jobs.specs.Events.{Event, IsEnd, IsReady, IsRight, IsStart, Runs, completes, fails, node_at, running_after, starts, state_after, wants}
+use Rattle.plan_jobs.specs.Events.{Event, IsReportReply, IsReady, IsRight, IsStart, Runs, completes, fails, node_at, running_after, starts, state_after, lists_id}
 use Rattle.replay_text.specs.Replay.{asked}
 use Rattle.replay_text.specs.declared.event.JobEvent.{JobEvent}
 use Rattle.replay_text.specs.declared.event.JobEvent.TheVariants as event
@@ -14,12 +14,12 @@ use Rattle.replay_answers.proofs.Decided.{Dec, LeastBelow, SomeBelow, both, comp
 module _ (nodes : List PlanNode) (events : List Event) where
   -- a need that isn't completed
   abbrev IsOpen : ℕ → ℕ → Type 0
-  IsOpen place need = (wants (node_at nodes place) (node_at nodes need).id ≡ true) × (state_after nodes events need ≡ Completed → ⊥)
+  IsOpen place need = (lists_id (node_at nodes place) (node_at nodes need).id ≡ true) × (state_after nodes events need ≡ Completed → ⊥)
 
   is_open : (place need : ℕ) → Dec (IsOpen place need)
-  is_open place need = both (is_true (wants (node_at nodes place) (node_at nodes need).id)) (never (completed (state_after nodes events need)))
+  is_open place need = both (is_true (lists_id (node_at nodes place) (node_at nodes need).id)) (never (completed (state_after nodes events need)))
 
-  met_by : (place need : ℕ) → (IsOpen place need → ⊥) → wants (node_at nodes place) (node_at nodes need).id ≡ true → Dec (state_after nodes events need ≡ Completed)
+  met_by : (place need : ℕ) → (IsOpen place need → ⊥) → lists_id (node_at nodes place) (node_at nodes need).id ≡ true → Dec (state_after nodes events need ≡ Completed)
       → state_after nodes events need ≡ Completed
   met_by place need denied w (inl done) = done
   met_by place need denied w (inr unmet) = absurd (denied (w, unmet))
@@ -49,11 +49,11 @@ module _ (nodes : List PlanNode) (events : List Event) where
     some_start : (reply : Result ℕ JobFault) × IsStart nodes slots events reply
     some_start = start_by (same (running_after nodes events) slots) (least_below (IsReady nodes events) (length nodes) is_ready)
 
-  end_by : (place : ℕ) → Dec (Runs nodes events place) → (reply : Result ⊤ JobFault) × IsEnd nodes events place reply
+  end_by : (place : ℕ) → Dec (Runs nodes events place) → (reply : Result ⊤ JobFault) × IsReportReply nodes events place reply
   end_by place (inl running) = (Ok tt, running)
   end_by place (inr denied) = (Err NotRunning, denied)
 
-  some_end : (place : ℕ) → (reply : Result ⊤ JobFault) × IsEnd nodes events place reply
+  some_end : (place : ℕ) → (reply : Result ⊤ JobFault) × IsReportReply nodes events place reply
   some_end place = end_by place (both (less place (length nodes)) (runs (state_after nodes events place)))
 
   pub some_reply : (slots : ℕ) (asks : JobEvent) → (now : Event) × (asked now ≡ asks) × IsRight nodes slots events now

@@ -3,7 +3,7 @@ use Rattle.std.proofs.Common.{◌≡◌, ◌⊎◌, inl, inr, ◌<◌, ℕ, zero
 use Rattle.common_laws.specs.Graphs.{IsPath, last, more}
 use Rattle.plan_nodes.specs.declared.node.PlanNode.{PlanNode}
 use Rattle.plan_jobs.specs.declared.job.JobState.TheVariants.{Waiting, Running, Completed, Failed}
-use Rattle.plan_jobs.specs.Events.{Event, IsHeld, NeedsNode, node_at, state_after, wants}
+use Rattle.plan_jobs.specs.Events.{Event, IsHeld, NeedsNode, node_at, state_after, lists_id}
 use Rattle.replay_text.specs.Replay.{IsCount, none, yes, no}
 use Rattle.replay_answers.proofs.Decided.{Dec, SomeBelow, both, completed, failed, is_true, never, runs, some_below, waits}
 
@@ -14,7 +14,7 @@ module _ (nodes : List PlanNode) (events : List Event) where
 
   -- this need is the first step to a failed node
   abbrev By : ℕ → ℕ → Type 0
-  By place need = (wants (node_at nodes place) (node_at nodes need).id ≡ true) × ((state_after nodes events need ≡ Failed) ⊎ Reaches need)
+  By place need = (lists_id (node_at nodes place) (node_at nodes need).id ≡ true) × ((state_after nodes events need ≡ Failed) ⊎ Reaches need)
 
   either : {P Q : Type 0} → Dec P → Dec Q → Dec (P ⊎ Q)
   either (inl p) q = inl (inl p)
@@ -37,7 +37,7 @@ module _ (nodes : List PlanNode) (events : List Event) where
   reaches zero place l = absurd (omega (arith, l))
   reaches (suc n) place l =
       reaches_by place (some_below (By place) place (λ need m.
-      both (is_true (wants (node_at nodes place) (node_at nodes need).id)) (either (failed (state_after nodes events need)) (reaches n need (omega (arith, l, m))))))
+      both (is_true (lists_id (node_at nodes place) (node_at nodes need).id)) (either (failed (state_after nodes events need)) (reaches n need (omega (arith, l, m))))))
 
   is_held : (place : ℕ) → Dec (IsHeld nodes events place)
   is_held place = by (both (waits (state_after nodes events place)) (reaches (suc place) place (omega arith)))

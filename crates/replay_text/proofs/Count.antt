@@ -5,7 +5,7 @@ use Rattle.std.proofs.lemmas.Grind.{flat_map-append}
 use Rattle.plan_nodes.specs.declared.node.PlanNode.{PlanNode}
 use Rattle.plan_jobs.specs.Events.{Event}
 use Rattle.std.specs.Fmt.{decimal}
-use Rattle.replay_text.specs.Replay.{IsCount, counts_line, event_line, told_text, yes, no}
+use Rattle.replay_text.specs.Replay.{IsCount, counts_line, event_line, history_text, yes, no}
 use Rattle.replay_text.proofs.Goes.{append-nil}
 
 pub one_more : (P : ℕ → Type 0) (places count : ℕ) → P places → IsCount P places count → IsCount P (places + 1) (count + 1)
@@ -24,7 +24,7 @@ counts_text old t1 t2 t3 t4 t5 new a b c d e h1 h2 h3 h4 h5 h =
     simp (h, h5, h4, h3, h2, h1, append_assoc)
 
 -- one more line is appended
-pub told_more : (nodes : List PlanNode) (told : List Event) (now : Event) (old new : List ℕ) → old ≡ told_text nodes told → new ≡ old ++ event_line nodes now → new ≡ told_text nodes (told ++ now ∷ [])
+pub told_more : (nodes : List PlanNode) (told : List Event) (now : Event) (old new : List ℕ) → old ≡ history_text nodes told → new ≡ old ++ event_line nodes now → new ≡ history_text nodes (told ++ now ∷ [])
 told_more nodes told now old new o n =
     let more : flat_map (event_line nodes) (told ++ now ∷ []) ≡ flat_map (event_line nodes) told ++ event_line nodes now =
     flat_map-append (event_line nodes) told (now ∷ []) ∙ ap (λ l. flat_map (event_line nodes) told ++ l) (append-nil (event_line nodes now)) in

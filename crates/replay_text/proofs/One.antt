@@ -9,9 +9,9 @@ use Rattle.plan_jobs.proofs.Histories.{one_end, one_start}
 use Rattle.version_range.specs.Version.{IsNumber}
 use Rattle.replay_text.specs.declared.event.JobEvent.{JobEvent}
 use Rattle.replay_text.specs.declared.event.JobEvent.TheVariants.{Start, Completed, Failed}
-use Rattle.replay_text.specs.declared.standing.Standing.TheVariants as standing
+use Rattle.replay_text.specs.declared.standing.EndState.TheVariants as standing
 use Rattle.replay_text.specs.Reading.{AreEvents, AreRead, IsFirstBad, IsGood, IsLineOf, IsShort, event_text, none as no_lines, empty, one, here, later}
-use Rattle.replay_text.specs.Replay.{IsCount, IsCounted, IsReplay, IsStanding, asked, counts_line, told_text, none, yes, no}
+use Rattle.replay_text.specs.Replay.{IsCount, IsCounted, IsReplay, HasEndState, asked, counts_line, history_text, none, yes, no}
 use Rattle.replay_text.proofs.Goes.{append-nil}
 
 -- ---- the event of a line is unique
@@ -119,15 +119,15 @@ one_count P places a b (no {places = rest} other h) (no also k) = one_count P re
 module _ (plan : List PlanNode) (told : List Event) (nodes : ℕ) (old a b : List ℕ) (h : IsCounted plan told nodes old a) (k : IsCounted plan told nodes old b) where
   one_counted : a ≡ b
   one_counted =
-      let completed = one_count (λ place. IsStanding plan told place standing.Completed) nodes h.completed k.completed h.are_completed k.are_completed in
-      let failed = one_count (λ place. IsStanding plan told place standing.Failed) nodes h.failed k.failed h.have_failed k.have_failed in
-      let running = one_count (λ place. IsStanding plan told place standing.Running) nodes h.running k.running h.run k.run in
-      let waiting = one_count (λ place. IsStanding plan told place standing.Waiting) nodes h.waiting k.waiting h.wait k.wait in
-      let held = one_count (λ place. IsStanding plan told place standing.Held) nodes h.held k.held h.are_held k.are_held in
+      let completed = one_count (λ place. HasEndState plan told place standing.Completed) nodes h.completed k.completed h.are_completed k.are_completed in
+      let failed = one_count (λ place. HasEndState plan told place standing.Failed) nodes h.failed k.failed h.have_failed k.have_failed in
+      let running = one_count (λ place. HasEndState plan told place standing.Running) nodes h.running k.running h.run k.run in
+      let waiting = one_count (λ place. HasEndState plan told place standing.Waiting) nodes h.waiting k.waiting h.wait k.wait in
+      let held = one_count (λ place. HasEndState plan told place standing.Held) nodes h.held k.held h.are_held k.are_held in
       h.text ∙ (λ i. old ++ counts_line (completed i) (failed i) (running i) (waiting i) (held i)) ∙ sym k.text
 
 pub one-replay : (nodes : List PlanNode) (slots : ℕ) (events : List JobEvent) (a b : List ℕ) → IsReplay nodes slots events a → IsReplay nodes slots events b → a ≡ b
 one-replay nodes slots events a b h k =
     let same = same_told nodes slots [] h.told k.told h.history k.history (h.same ∙ sym k.same) in
-    let counted = subst (λ told. IsCounted nodes told (length nodes) (told_text nodes told) a) same h.counted in
-    one_counted nodes k.told (length nodes) (told_text nodes k.told) a b counted k.counted
+    let counted = subst (λ told. IsCounted nodes told (length nodes) (history_text nodes told) a) same h.counted in
+    one_counted nodes k.told (length nodes) (history_text nodes k.told) a b counted k.counted

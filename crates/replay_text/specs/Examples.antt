@@ -8,7 +8,7 @@ use Rattle.plan_jobs.specs.declared.job.JobFault.TheVariants.{NoSlot, NotRunning
 use Rattle.plan_jobs.specs.Events.{completes, fails, starts}
 use Rattle.replay_text.specs.declared.event.JobEvent.TheVariants.{Start, Completed}
 use Rattle.replay_text.specs.Reading.{event_text}
-use Rattle.replay_text.specs.Replay.{counts_line, told_text}
+use Rattle.replay_text.specs.Replay.{counts_line, history_text}
 
 -- the last line needs no line feed, and one carriage return before a line feed is dropped
 three_lines : lines (codes "start\r\n\ncompleted 12") ≡ codes "start" ∷ [] ∷ codes "completed 12" ∷ []
@@ -32,7 +32,7 @@ nodes = record {
   setups = [];
 } ∷ []
 
-told : told_text nodes (starts (Ok 0) ∷ starts (Err NoSlot) ∷ completes 6 (Err NotRunning) ∷ fails 0 (Ok tt) ∷ [])
+told : history_text nodes (starts (Ok 0) ∷ starts (Err NoSlot) ∷ completes 6 (Err NotRunning) ∷ fails 0 (Ok tt) ∷ [])
     ≡ codes "replay\nstart 1 a-1-0f\nstart NoSlot\ncompleted 7 NotRunning\nfailed 1\n"
 unfolding digits
 told = refl

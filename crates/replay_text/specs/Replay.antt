@@ -9,8 +9,8 @@ use Rattle.plan_jobs.specs.Events.{Event, IsHeld, IsHistory, completes, fails, n
 use Rattle.plan_jobs.specs.Board.{AreAfter, Board}
 use Rattle.replay_text.specs.declared.event.JobEvent.{JobEvent}
 use Rattle.replay_text.specs.declared.event.JobEvent.TheVariants.{Start, Completed, Failed}
-use Rattle.replay_text.specs.declared.standing.Standing.{Standing}
-use Rattle.replay_text.specs.declared.standing.Standing.TheVariants as standing
+use Rattle.replay_text.specs.declared.standing.EndState.{EndState}
+use Rattle.replay_text.specs.declared.standing.EndState.TheVariants as standing
 
 -- the event without its reply
 abbrev pub asked : Event → JobEvent
@@ -40,12 +40,12 @@ event_line nodes (completes place reply) = end_line (codes "completed ") place r
 event_line nodes (fails place reply) = end_line (codes "failed ") place reply
 
 -- a node is in this state at the end; a held node doesn't count as waiting
-abbrev pub IsStanding : List PlanNode → List Event → ℕ → Standing → Type 0
-IsStanding nodes told place standing.Completed = state_after nodes told place ≡ state.Completed
-IsStanding nodes told place standing.Failed = state_after nodes told place ≡ state.Failed
-IsStanding nodes told place standing.Running = state_after nodes told place ≡ state.Running
-IsStanding nodes told place standing.Waiting = (state_after nodes told place ≡ state.Waiting) × (IsHeld nodes told place → ⊥)
-IsStanding nodes told place standing.Held = IsHeld nodes told place
+abbrev pub HasEndState : List PlanNode → List Event → ℕ → EndState → Type 0
+HasEndState nodes told place standing.Completed = state_after nodes told place ≡ state.Completed
+HasEndState nodes told place standing.Failed = state_after nodes told place ≡ state.Failed
+HasEndState nodes told place standing.Running = state_after nodes told place ≡ state.Running
+HasEndState nodes told place standing.Waiting = (state_after nodes told place ≡ state.Waiting) × (IsHeld nodes told place → ⊥)
+HasEndState nodes told place standing.Held = IsHeld nodes told place
 
 -- this many of the first places have the property
 pub data IsCount (P : ℕ → Type 0) : ℕ → ℕ → Type 0 where
@@ -66,27 +66,27 @@ pub record IsCounted (plan : List PlanNode) (told : List Event) (nodes : ℕ) (o
   pub running : ℕ
   pub waiting : ℕ
   pub held : ℕ
-  pub are_completed : IsCount (λ place. IsStanding plan told place standing.Completed) nodes completed
-  pub have_failed : IsCount (λ place. IsStanding plan told place standing.Failed) nodes failed
-  pub run : IsCount (λ place. IsStanding plan told place standing.Running) nodes running
-  pub wait : IsCount (λ place. IsStanding plan told place standing.Waiting) nodes waiting
-  pub are_held : IsCount (λ place. IsStanding plan told place standing.Held) nodes held
+  pub are_completed : IsCount (λ place. HasEndState plan told place standing.Completed) nodes completed
+  pub have_failed : IsCount (λ place. HasEndState plan told place standing.Failed) nodes failed
+  pub run : IsCount (λ place. HasEndState plan told place standing.Running) nodes running
+  pub wait : IsCount (λ place. HasEndState plan told place standing.Waiting) nodes waiting
+  pub are_held : IsCount (λ place. HasEndState plan told place standing.Held) nodes held
   pub text : new ≡ old ++ counts_line completed failed running waiting held
 
 -- the event gets its right reply, and its line is appended
-pub record IsTold (nodes : List PlanNode) (slots : ℕ) (told : List Event) (event : JobEvent) (board : Board) (old new : List ℕ) : Type 0 where
+pub record AppendsEvent (nodes : List PlanNode) (slots : ℕ) (told : List Event) (event : JobEvent) (board : Board) (old new : List ℕ) : Type 0 where
   pub now : Event
   pub same : asked now ≡ event
   pub after : AreAfter nodes slots (told ++ now ∷ []) board
   pub text : new ≡ old ++ event_line nodes now
 
 -- the lines of the events so far
-abbrev pub told_text : List PlanNode → List Event → List ℕ
-told_text nodes told = codes "replay\n" ++ flat_map (event_line nodes) told
+abbrev pub history_text : List PlanNode → List Event → List ℕ
+history_text nodes told = codes "replay\n" ++ flat_map (event_line nodes) told
 
 -- the text of a replay: these events with their right replies, and then how many nodes are in each state
 pub record IsReplay (nodes : List PlanNode) (slots : ℕ) (events : List JobEvent) (text : List ℕ) : Type 0 where
   pub told : List Event
   pub history : IsHistory nodes slots told
   pub same : map asked told ≡ events
-  pub counted : IsCounted nodes told (length nodes) (told_text nodes told) text
+  pub counted : IsCounted nodes told (length nodes) (history_text nodes told) text

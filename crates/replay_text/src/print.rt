@@ -4,10 +4,10 @@ ghost use Rattle.std.specs.Fmt.{decimal};
 ghost use Rattle.plan_nodes.specs.declared.node.PlanNode.{PlanNode};
 ghost use Rattle.plan_jobs.specs.Events.{Event, starts};
 ghost use Rattle.plan_jobs.specs.Board.{AreAfter};
-ghost use Rattle.replay_text.specs.Replay.{IsCounted, IsReplay, IsTold, end_line, event_line, fault_word};
+ghost use Rattle.replay_text.specs.Replay.{IsCounted, IsReplay, AppendsEvent, end_line, event_line, fault_word};
 
 use crate::event::JobEvent;
-use crate::standing::{Standing, count_of};
+use crate::standing::{EndState, count_of};
 use plan_jobs::{JobFault, Jobs};
 use plan_nodes::PlanNode;
 use plan_types::{NoMemory, Text};
@@ -41,7 +41,7 @@ fn push_event(
 ) -> Result<(), NoMemory>
     requires { (slots : ℕ) × (told : List Event) × AreAfter nodes.now slots told jobs.old }
     ensures { OnOk result ((slots : ℕ) (told : List Event) → AreAfter nodes.now slots told jobs.old
-        → IsTold nodes.now slots told event jobs.new text.old text.new) }
+        → AppendsEvent nodes.now slots told event jobs.new text.old text.new) }
 {
     match event {
         JobEvent::Start => {
@@ -120,27 +120,27 @@ fn push_counts(alloc: Global, text: &mut Text, jobs: &Jobs, nodes: usize) -> Res
         alloc,
         text,
         "completed ",
-        count_of(jobs, nodes, Standing::Completed),
+        count_of(jobs, nodes, EndState::Completed),
     )?;
     push_count(
         alloc,
         text,
         " failed ",
-        count_of(jobs, nodes, Standing::Failed),
+        count_of(jobs, nodes, EndState::Failed),
     )?;
     push_count(
         alloc,
         text,
         " running ",
-        count_of(jobs, nodes, Standing::Running),
+        count_of(jobs, nodes, EndState::Running),
     )?;
     push_count(
         alloc,
         text,
         " waiting ",
-        count_of(jobs, nodes, Standing::Waiting),
+        count_of(jobs, nodes, EndState::Waiting),
     )?;
-    push_count(alloc, text, " held ", count_of(jobs, nodes, Standing::Held))?;
+    push_count(alloc, text, " held ", count_of(jobs, nodes, EndState::Held))?;
     text.push_str("\n")
 }
 

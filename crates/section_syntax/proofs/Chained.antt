@@ -14,7 +14,7 @@ use Rattle.plan_types.specs.declared.element.Element.{Element}
 use Rattle.plan_types.specs.declared.range.Spec.{Spec}
 use Rattle.plan_types.specs.declared.refusal.Cause.{Cause}
 use Rattle.section_syntax.specs.Branch.{branch_of, chain_of, condition}
-use Rattle.section_syntax.specs.Chained.{AreChained, FitsBehind, StandInBranches, begun, left_by}
+use Rattle.section_syntax.specs.Chained.{AreChained, FitsBehind, AreSectionParts, begun, chain_after}
 use Rattle.section_syntax.specs.File.{IsFile, Says, SectionIs}
 use Rattle.section_syntax.specs.Items.{AreParts, FieldSays, Items, SectionSays, branch_fits, import_fits, placed}
 use Rattle.cabal_lexer.specs.Tree.{Tree, end, field, section, tree_of}
@@ -104,7 +104,7 @@ more-ended : (front back last : List Branch) (part : SectionPart) (parts : List 
     AreChained (front ++ begun part.said (slice_get back 0)) parts → FitsBehind part.said (slice_get back 0) → AreChained (front ++ (back ++ last)) (part ∷ parts)
 more-ended front [] last part parts stands rest fits =
     chained-part front last part parts stands (subst (λ v. AreChained (front ++ v) parts) (begun-alone part.said (slice_get last 0) fits) rest)
-    (λ word own is. fits-alone word (left_by (slice_get last 0)) (fits word own is))
+    (λ word own is. fits-alone word (chain_after (slice_get last 0)) (fits word own is))
 more-ended front (branch ∷ back) last part parts stands rest fits = chained-part front (branch ∷ (back ++ last)) part parts stands rest fits
 
 pub chained-behind : (opened last : List Branch) (parts : List SectionPart) → AreChained opened parts → AreChained (opened ++ last) parts
@@ -120,7 +120,7 @@ chained-behind opened last (part ∷ parts) chained =
 -- the outermost of these closed branches leaves this chain
 abbrev LeavesOf : List Branch → Option Cond → Type 0
 LeavesOf ended None = Unit {0}
-LeavesOf ended (Some chain) = left_by (slice_get ended 0) ≡ Some chain
+LeavesOf ended (Some chain) = chain_after (slice_get ended 0) ≡ Some chain
 
 -- put before a chained list, these parts keep it chained; the closed branches leave this chain
 abbrev KeepChained : List Branch → Option Cond → List SectionPart → Type 0
@@ -164,8 +164,8 @@ leaves-chain : (branch : Branch) (chain : Option Cond) → chain_of branch ≡ c
 leaves-chain branch None is = tt
 leaves-chain branch (Some chain) is = is
 
-fits-behind : (word : BranchWord) (chain : Option Cond) (ended : List Branch) → LeavesOf ended chain → branch_fits word chain ≡ true → branch_fits word (left_by (slice_get ended 0)) ≡ true
-fits-behind word None ended leaves fits = fits-alone word (left_by (slice_get ended 0)) fits
+fits-behind : (word : BranchWord) (chain : Option Cond) (ended : List Branch) → LeavesOf ended chain → branch_fits word chain ≡ true → branch_fits word (chain_after (slice_get ended 0)) ≡ true
+fits-behind word None ended leaves fits = fits-alone word (chain_after (slice_get ended 0)) fits
 fits-behind word (Some chain) ended leaves fits = ap (branch_fits word) leaves ∙ fits
 
 begins : (word : BranchWord) (chain : Option Cond) (own : Result Cond Cause) (ended : List Branch) → LeavesOf ended chain →
@@ -192,7 +192,7 @@ keep-branch line opened branches word chain own within behind stands inside othe
     (λ other o is.
     let same : word ≡ other = cc is in
     let fits : branch_fits word chain ≡ true = cc is in
-    subst (λ w. branch_fits w (left_by (slice_get ended 0)) ≡ true) same (fits-behind word chain ended leaves fits))
+    subst (λ w. branch_fits w (chain_after (slice_get ended 0)) ≡ true) same (fits-behind word chain ended leaves fits))
 
 keep-section : (spec : Spec) (word : InnerWord) (line : ℕ) (args : List ℕ) (opened : List Branch) (branches : List Cond) (chain : Option Cond) (Within : List Cond → List SectionPart → Type 0) (Behind : Option Cond → List SectionPart → Type 0) →
     branches ≡ map condition opened → ((under : List Branch) (within : List Cond) (parts : List SectionPart) → within ≡ map condition under → Within within parts → KeepChained under None parts) →
@@ -222,24 +222,24 @@ keep-items spec kind front (section line name args items behind) opened branches
     (λ under within found are. keep-items spec kind end items under within None found are)
     (λ left found. keep-items spec kind (section line name args items front) behind opened branches left found stands) parts says
 
-pub parts-chained : (spec : Spec) (kind : SectionKind) (items : Tree) (parts : List SectionPart) → AreParts spec kind items parts → StandInBranches parts
+pub parts-chained : (spec : Spec) (kind : SectionKind) (items : Tree) (parts : List SectionPart) → AreParts spec kind items parts → AreSectionParts parts
 unfolding AreChained
-parts-chained spec kind items parts are = subst StandInBranches (append-nil parts) (keep-items spec kind end items [] [] None parts refl are [] [] tt tt)
+parts-chained spec kind items parts are = subst AreSectionParts (append-nil parts) (keep-items spec kind end items [] [] None parts refl are [] [] tt tt)
 
 -- ---- a file
 
-chained-in-file : (spec : Spec) (kind : Option SectionKind) (line : ℕ) (args : List ℕ) (items : Tree) (Behind : List Section → Type 0) → ((more : List Section) → Behind more → AllByRecursion (λ one. StandInBranches one.parts) more) →
-    (sections : List Section) → SectionIs spec kind line args items Behind sections → AllByRecursion (λ one. StandInBranches one.parts) sections
+chained-in-file : (spec : Spec) (kind : Option SectionKind) (line : ℕ) (args : List ℕ) (items : Tree) (Behind : List Section → Type 0) → ((more : List Section) → Behind more → AllByRecursion (λ one. AreSectionParts one.parts) more) →
+    (sections : List Section) → SectionIs spec kind line args items Behind sections → AllByRecursion (λ one. AreSectionParts one.parts) sections
 chained-in-file spec None line args items Behind behind sections is = behind sections is
 chained-in-file spec (Some kind) line args items Behind behind sections is =
-    subst (AllByRecursion (λ (one : Section). StandInBranches one.parts)) (sym is.4) (parts-chained spec kind items is.0 is.2, behind is.1 is.3)
+    subst (AllByRecursion (λ (one : Section). AreSectionParts one.parts)) (sym is.4) (parts-chained spec kind items is.0 is.2, behind is.1 is.3)
 
-said-chained : (spec : Spec) (tree : Tree) (heads : List HeadField) (sections : List Section) → Says spec tree heads sections → AllByRecursion (λ one. StandInBranches one.parts) sections
+said-chained : (spec : Spec) (tree : Tree) (heads : List HeadField) (sections : List Section) → Says spec tree heads sections → AllByRecursion (λ one. AreSectionParts one.parts) sections
 unfolding Says
-said-chained spec end heads sections says = subst (AllByRecursion (λ (one : Section). StandInBranches one.parts)) (sym says.1) tt
+said-chained spec end heads sections says = subst (AllByRecursion (λ (one : Section). AreSectionParts one.parts)) (sym says.1) tt
 said-chained spec (field line name values behind) heads sections says = said-chained spec behind says.1 sections says.3
 said-chained spec (section line name args items behind) heads sections says =
     chained-in-file spec (section_kind name) line args items (λ more. Says spec behind heads more) (λ more. said-chained spec behind heads more) sections says
 
-pub file-chained : (spec : Spec) (items : List Element) (file : File) → IsFile spec items file → All (λ one. StandInBranches one.parts) file.sections
-file-chained spec items file is = All-from_recursion (λ (one : Section). StandInBranches one.parts) file.sections (said-chained spec (tree_of items) file.heads file.sections is.1)
+pub file-chained : (spec : Spec) (items : List Element) (file : File) → IsFile spec items file → All (λ one. AreSectionParts one.parts) file.sections
+file-chained spec items file is = All-from_recursion (λ (one : Section). AreSectionParts one.parts) file.sections (said-chained spec (tree_of items) file.heads file.sections is.1)

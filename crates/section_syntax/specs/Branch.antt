@@ -52,13 +52,13 @@ or_never (Ok cond) = cond
 or_never (Err cause) = Never
 
 -- `chain && cond`, or `cond` alone without a chain
-abbrev pub tried_behind : Option Cond → Cond → Cond
-tried_behind None cond = cond
-tried_behind (Some chain) cond = And chain cond
+abbrev pub with_chain : Option Cond → Cond → Cond
+with_chain None cond = cond
+with_chain (Some chain) cond = And chain cond
 
 -- an `if` or `elif`, and the chain that ends with it
-abbrev pub tried : Option Cond → Cond → Branch
-tried chain own = record { condition = tried_behind chain own; chain = Some (tried_behind chain (Not own)) }
+abbrev pub if_branch : Option Cond → Cond → Branch
+if_branch chain own = record { condition = with_chain chain own; chain = Some (with_chain chain (Not own)) }
 
 -- an `else`: taken if no earlier branch of its chain is; it ends the chain
 abbrev pub last : Option Cond → Branch
@@ -66,8 +66,8 @@ last chain = record { condition = elim chain [ None ↦ Always | Some none ↦ n
 
 -- The branch of a word. The chain is the condition that none of its branches so far is taken. An `if` begins a new one.
 abbrev pub branch_of : BranchWord → Option Cond → Result Cond Cause → Branch
-branch_of If chain own = tried None (or_never own)
-branch_of Elif chain own = tried chain (or_never own)
+branch_of If chain own = if_branch None (or_never own)
+branch_of Elif chain own = if_branch chain (or_never own)
 branch_of Else chain own = last chain
 
 -- the chain that ends with a branch; none after an `else`

@@ -12,9 +12,9 @@ use Rattle.section_syntax.specs.declared.part.Said.TheVariants as said
 use Rattle.section_syntax.specs.declared.words.BranchWord.{BranchWord}
 
 -- the chain that ends with a branch
-abbrev pub left_by : Option Branch → Option Cond
-left_by None = None
-left_by (Some branch) = branch.chain
+abbrev pub chain_after : Option Branch → Option Cond
+chain_after None = None
+chain_after (Some branch) = branch.chain
 
 -- the branch that a part begins, in the chain of the last closed branch on its level, if it is marked as fitting
 abbrev pub begun : Said → Option Branch → List Branch
@@ -25,7 +25,7 @@ begun (said.Visibility value) before = []
 begun (said.Default value) before = []
 begun (said.Manual value) before = []
 begun said.BuildTools before = []
-begun (said.Branch word own fits) before = branch_of word (if fits then left_by before else None) own ∷ []
+begun (said.Branch word own fits) before = branch_of word (if fits then chain_after before else None) own ∷ []
 begun said.Misplaced before = []
 
 -- the branches in which the next part may be, the outermost first: the open ones, then the one that this part begins
@@ -34,7 +34,7 @@ branches_behind opened part = take (length part.branches) opened ++ begun part.s
 
 -- a branch marked as fitting is allowed where it comes: after the last closed branch on the same level
 abbrev pub FitsBehind : Said → Option Branch → Type 0
-FitsBehind one before = (word : BranchWord) (own : Result Cond Cause) → one ≡ said.Branch word own true → branch_fits word (left_by before) ≡ true
+FitsBehind one before = (word : BranchWord) (own : Result Cond Cause) → one ≡ said.Branch word own true → branch_fits word (chain_after before) ≡ true
 
 -- each part is in the outermost of these branches, and a branch that is marked as fitting does fit
 unfoldable pub AreChained : List Branch → List SectionPart → Type 0
@@ -44,5 +44,5 @@ AreChained opened (part ∷ parts) =
     × FitsBehind part.said (slice_get opened (length part.branches))
 
 -- the parts of a section are chained, and the first is in no branch
-abbrev pub StandInBranches : List SectionPart → Type 0
-StandInBranches parts = AreChained [] parts
+abbrev pub AreSectionParts : List SectionPart → Type 0
+AreSectionParts parts = AreChained [] parts

@@ -23,17 +23,17 @@ ReadsItems inside items branches old new =
     × (new ≡ old ++ found)
 
 -- the kept flag is whether an import fits after the earlier items
-abbrev pub Tells : Inside → List Branch → Before → Tree → Type 0
-Tells inside branches before front = before.fits ≡ import_fits inside.spec inside.kind front (map condition branches)
+abbrev pub KnowsImport : Inside → List Branch → Before → Tree → Type 0
+KnowsImport inside branches before front = before.fits ≡ import_fits inside.spec inside.kind front (map condition branches)
 
 -- the kept flag stays right after one more item
-abbrev pub TellsOn : Inside → Element → List Branch → Before → Before → Type 0
-TellsOn inside item branches before after = (front : Tree) → Tells inside branches before front → Tells inside branches after (in_front item front)
+abbrev pub KeepsKnowing : Inside → Element → List Branch → Before → Before → Type 0
+KeepsKnowing inside item branches before after = (front : Tree) → KnowsImport inside branches before front → KnowsImport inside branches after (in_front item front)
 
 -- the pushed parts of an item, followed by the parts of the items after it, are the parts of both
 abbrev pub ReadsItem : Inside → Element → List Branch → Before → Before → List SectionPart → List SectionPart → Type 0
 ReadsItem inside item branches before after old new =
-    (front : Tree) → Tells inside branches before front
+    (front : Tree) → KnowsImport inside branches before front
     → (behind : Tree) (more : List SectionPart) → Items inside.spec inside.kind (in_front item front) behind (map condition branches) after.chain more
     → (found : List SectionPart) × Items inside.spec inside.kind front (in_front item behind) (map condition branches) before.chain found
     × (new ++ more ≡ old ++ found)

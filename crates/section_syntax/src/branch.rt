@@ -1,7 +1,7 @@
 // Branches and the conditions under which their parts count.
 
 ghost use Rattle.std.specs.Prelude.{◌≡◌, IfOk, map};
-ghost use Rattle.section_syntax.specs.Branch.{bare, branch_of, condition, last, or_never, tried, tried_behind, OwnCondition, IsOutcome};
+ghost use Rattle.section_syntax.specs.Branch.{bare, branch_of, condition, last, or_never, if_branch, with_chain, OwnCondition, IsOutcome};
 
 use crate::words::BranchWord;
 use condition_text::read_cond;
@@ -26,25 +26,25 @@ impl Branch {
         ensures { IfOk result (λ branch. branch ≡ branch_of word chain own.now) }
     {
         match word {
-            BranchWord::If => tried(alloc, None, own),
-            BranchWord::Elif => tried(alloc, chain, own),
+            BranchWord::If => if_branch(alloc, None, own),
+            BranchWord::Elif => if_branch(alloc, chain, own),
             BranchWord::Else => last(alloc, chain),
         }
     }
 }
 
 /// An `if` or `elif`.
-fn tried(
+fn if_branch(
     alloc: Global,
     chain: Option<Guard>,
     own: &Result<Guard, Cause>,
 ) -> Result<Branch, NoMemory>
-    ensures { IfOk result (λ branch. branch ≡ tried chain (or_never own.now)) }
+    ensures { IfOk result (λ branch. branch ≡ if_branch chain (or_never own.now)) }
 {
     let own = or_never(alloc, own)?;
     let other = own.negated(alloc)?;
-    let condition = tried_behind(alloc, &chain, own)?;
-    let chain = tried_behind(alloc, &chain, other)?;
+    let condition = with_chain(alloc, &chain, own)?;
+    let chain = with_chain(alloc, &chain, other)?;
     Ok(Branch {
         condition,
         chain: Some(chain),
@@ -56,7 +56,7 @@ fn last(alloc: Global, chain: Option<Guard>) -> Result<Branch, NoMemory>
     ensures { IfOk result (λ branch. branch ≡ last chain) }
 {
     let condition = match chain {
-        Some(tried) => tried,
+        Some(if_branch) => if_branch,
         None => Guard::new(alloc, Cond::Always)?,
     };
     Ok(Branch {
@@ -65,13 +65,13 @@ fn last(alloc: Global, chain: Option<Guard>) -> Result<Branch, NoMemory>
     })
 }
 
-fn tried_behind(alloc: Global, chain: &Option<Guard>, cond: Guard) -> Result<Guard, NoMemory>
-    ensures { IfOk result (λ found. found ≡ tried_behind chain.now cond) }
+fn with_chain(alloc: Global, chain: &Option<Guard>, cond: Guard) -> Result<Guard, NoMemory>
+    ensures { IfOk result (λ found. found ≡ with_chain chain.now cond) }
 {
     match chain {
         None => Ok(cond),
-        Some(tried) => {
-            let left = tried.copy()?;
+        Some(if_branch) => {
+            let left = if_branch.copy()?;
             left.and(alloc, cond)
         }
     }

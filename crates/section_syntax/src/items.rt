@@ -9,7 +9,7 @@ ghost use Rattle.section_syntax.specs.declared.part.SectionPart.{SectionPart};
 ghost use Rattle.section_syntax.specs.Branch.{condition, branch_of, chain_of, OwnCondition};
 ghost use Rattle.section_syntax.specs.Items.{AreParts, Items, SectionSays, branch_fits, is_import, may_import, placed};
 ghost use Rattle.cabal_lexer.specs.Tree.{Tree, in_front, tree_of};
-ghost use Rattle.section_syntax.specs.Readings.{OpensBranch, ReadsItem, ReadsItems, ReadsSection, TellsOn};
+ghost use Rattle.section_syntax.specs.Readings.{OpensBranch, ReadsItem, ReadsItems, ReadsSection, KeepsKnowing};
 
 use crate::branch::{Branch, conditions, own_condition};
 use crate::field::said_by;
@@ -80,7 +80,7 @@ fn read_item(
     parts: &mut List<SectionPart>,
 ) -> Result<Before, NoMemory>
     ensures parts { IfOk result (λ after. ReadsItem inside item.now branches.old before after parts.old parts.new) }
-    ensures fits { IfOk result (TellsOn inside item.now branches.old before) }
+    ensures fits { IfOk result (KeepsKnowing inside item.now branches.old before) }
     ensures branches { IfOk result (λ _. branches.new ≡ branches.old) }
 {
     match item {

@@ -7,7 +7,7 @@ use Rattle.plan_types.specs.declared.range.Range.TheOpen as layer
 use Rattle.plan_types.specs.declared.range.Range.TheFolds.{fold-roll-Range}
 use Rattle.plan_types.specs.declared.version.Version.{Version}
 use Rattle.plan_types.specs.Members.{members, members_step, major_end}
-use Rattle.version_range.specs.Cuts.{HasNumbers, is_below, raised}
+use Rattle.version_range.specs.Cuts.{HasNumbers, is_below, prefix_end}
 use Rattle.version_range.specs.Version.{has_versions, is_version, versions_step}
 use Rattle.version_range.proofs.Ends.{below_down}
 use Rattle.version_range.proofs.Intervals.{above_is, at_least_is, at_most_is, below_is, equal_is, major_is, prefix_is, version_some}
@@ -59,8 +59,8 @@ module _ (x : Version) where
   pub prefix-interval : has_versions (roll-Range (layer.Prefix x)) ≡ true → IsInterval (members (roll-Range (layer.Prefix x))) x
   prefix-interval h =
       let numbers = has-numbers x (sym (fold-roll-Range Bool versions_step (layer.Prefix x)) ∙ h) in
-      interval-between (members (roll-Range (layer.Prefix x))) x (record { parts = raised x.parts }) numbers
-      (λ v n. ap (λ f. f v) (fold-roll-Range (Version → Bool) members_step (layer.Prefix x)) ∙ sym (prefix_is x x (record { parts = raised x.parts }) v numbers refl refl))
+      interval-between (members (roll-Range (layer.Prefix x))) x (record { parts = prefix_end x.parts }) numbers
+      (λ v n. ap (λ f. f v) (fold-roll-Range (Version → Bool) members_step (layer.Prefix x)) ∙ sym (prefix_is x x (record { parts = prefix_end x.parts }) v numbers refl refl))
 
   pub at_least-interval : has_versions (roll-Range (layer.AtLeast x)) ≡ true → IsInterval (members (roll-Range (layer.AtLeast x))) x
   at_least-interval h = interval-from (members (roll-Range (layer.AtLeast x))) x (has-numbers x (sym (fold-roll-Range Bool versions_step (layer.AtLeast x)) ∙ h))

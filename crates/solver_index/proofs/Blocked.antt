@@ -7,7 +7,7 @@ use Rattle.std.proofs.ByRecursion.{All-get_or}
 use Rattle.plan_types.specs.declared.index.Entry.{Entry}
 use Rattle.version_range.specs.Cuts.{HasNumbers, is_below}
 use Rattle.version_range.proofs.Ends.{not_itself}
-use Rattle.solver_index.specs.Blocks.{AreInBlocks, Falls, IsBlock, MayFollow, version_at}
+use Rattle.solver_index.specs.Blocks.{AreInBlocks, IsPrefixClosed, IsBlock, MayFollow, version_at}
 use Rattle.solver_index.specs.Places.{entry_at, no_entry}
 use Rattle.plan_types.specs.Packages.{is_installed}
 
@@ -25,7 +25,7 @@ module _ (entries : List Entry) (blocks : AreInBlocks entries) where
   source-back true b h k = absurd (false≢true (ap not (sym (h refl)) ∙ k))
   source-back false b h k = refl
 
-  pub sources-fall : Falls source entries 0 (length entries)
+  pub sources-fall : IsPrefixClosed source entries 0 (length entries)
   sources-fall i j low up upto h =
       elim (cases_lt i j) [
         | inl less ↦ source-back (is_installed (entry_at entries i).body) (is_installed (entry_at entries j).body) (follow-at entries blocks i j less upto).0 h

@@ -9,12 +9,12 @@ use Rattle.plan_types.specs.declared.index.Entry.{Entry}
 use Rattle.plan_types.specs.declared.range.Range.{Range}
 use Rattle.plan_types.specs.declared.version.Version.{Version}
 use Rattle.plan_types.specs.Members.{members}
-use Rattle.version_range.specs.declared.merge.Joint.{Joint}
+use Rattle.version_range.specs.declared.merge.Connective.{Connective}
 use Rattle.version_range.specs.Cuts.{HasNumbers, IsRelaxed, IsSplit, Relaxes, SomeAbove, SomeBelow, is_below, join}
 use Rattle.version_range.proofs.Ends.{below_down, below_up, not_below_back, not_itself}
 use Rattle.solver_index.specs.Before.{before}
 use Rattle.solver_index.specs.Blocks.{IsBlock, version_at}
-use Rattle.solver_index.specs.TurningPlaces.{AreTurns, AreTurnsBut, Follows, IsCalm, IsFree, IsOperator}
+use Rattle.solver_index.specs.TurningPlaces.{AreTurns, AreTurnsBut, IsConstantWhere, IsConstant, HasNoTurn, IsOperator}
 use Rattle.solver_index.proofs.ListLaws.{false-back}
 use Rattle.common_laws.specs.Lists.{contains-head, contains-tail, contains-none, contains-cases}
 
@@ -29,13 +29,13 @@ module _ (r : Range) (is : IsOperator r) (entries : List Entry) (from to first l
   v k = version_at entries k
 
   -- between two places in front of the members there are no members
-  in-front : (a b : ℕ) → from ≤ a → a ≤ b → b < first → IsCalm (members r) (v a) (v b)
+  in-front : (a b : ℕ) → from ≤ a → a ≤ b → b < first → IsConstant (members r) (v a) (v b)
   in-front a b la ab bf u n behind le =
       let nb = block.numbers b (omega (arith, la, ab)) (omega (arith, bf, middle, high)) in
       let na = block.numbers a la (omega (arith, ab, bf, middle, high)) in
       is.outside u n (is.front u (v b) n nb le (front b (omega (arith, la, ab)) bf)) ∙ sym (is.outside (v a) na (front a la (omega (arith, ab, bf))))
 
-  among : (a b : ℕ) → first ≤ a → a ≤ b → b < last → IsCalm (members r) (v a) (v b)
+  among : (a b : ℕ) → first ≤ a → a ≤ b → b < last → IsConstant (members r) (v a) (v b)
   among a b fa ab bl u n behind le =
       let na = block.numbers a (omega (arith, low, fa)) (omega (arith, ab, bl, high)) in
       let nb = block.numbers b (omega (arith, low, fa, ab)) (omega (arith, bl, high)) in
@@ -43,13 +43,13 @@ module _ (r : Range) (is : IsOperator r) (entries : List Entry) (from to first l
       let there : before r u ≡ false = false-back (before r u) (before r (v a)) (λ h. is.front (v a) u na n behind h) (reached a fa (omega (arith, ab, bl, high))) in
       is.down u (v b) n nb there le (inner b (omega (arith, fa, ab)) bl) ∙ sym (inner a fa (omega (arith, ab, bl)))
 
-  beyond : (a b : ℕ) → last ≤ a → a ≤ b → b < to → IsCalm (members r) (v a) (v b)
+  beyond : (a b : ℕ) → last ≤ a → a ≤ b → b < to → IsConstant (members r) (v a) (v b)
   beyond a b la ab bt u n behind le =
       let na = block.numbers a (omega (arith, low, middle, la)) (omega (arith, ab, bt)) in
       let none = left a la (omega (arith, ab, bt)) in
       false-back (members r u) (members r (v a)) (λ h. is.down (v a) u na n (reached a (omega (arith, middle, la)) (omega (arith, ab, bt))) behind h) none ∙ sym none
 
-  pub operator-calm : (a b : ℕ) → from ≤ a → a ≤ b → b < to → IsFree (first ∷ last ∷ []) a b → IsCalm (members r) (v a) (v b)
+  pub operator-calm : (a b : ℕ) → from ≤ a → a ≤ b → b < to → HasNoTurn (first ∷ last ∷ []) a b → IsConstant (members r) (v a) (v b)
   operator-calm a b la ab bt free =
       elim (cases_lt a first) [
         | inl before_first ↦
@@ -80,13 +80,13 @@ module _ (r : Range) (is : IsOperator r) (entries : List Entry) (from to first l
 
 -- ---- joined ranges
 
-free-left : (xs ys : List ℕ) (a b : ℕ) → IsFree (xs ++ ys) a b → IsFree xs a b
+free-left : (xs ys : List ℕ) (a b : ℕ) → HasNoTurn (xs ++ ys) a b → HasNoTurn xs a b
 free-left xs ys a b free t h = free t (Contains-append_left xs ys t h)
 
-free-right : (xs ys : List ℕ) (a b : ℕ) → IsFree (xs ++ ys) a b → IsFree ys a b
+free-right : (xs ys : List ℕ) (a b : ℕ) → HasNoTurn (xs ++ ys) a b → HasNoTurn ys a b
 free-right xs ys a b free t h = free t (Contains-append_right xs ys t h)
 
-join-calm : (joint : Joint) (range left right : Range) → IsSplit joint range left right → (v w : Version) → IsCalm (members left) v w → IsCalm (members right) v w → IsCalm (members range) v w
+join-calm : (joint : Connective) (range left right : Range) → IsSplit joint range left right → (v w : Version) → IsConstant (members left) v w → IsConstant (members right) v w → IsConstant (members range) v w
 join-calm joint range left right split v w l r u n behind le =
     split.members_are u ∙ (λ i. join joint (l u n behind le i) (r u n behind le i)) ∙ sym (split.members_are v)
 
@@ -97,7 +97,7 @@ module _ (has : Version → Bool) (entries : List Entry) (from to : ℕ) where
   both-within : (xs ys : List ℕ) → ((t : ℕ) → Contains xs t → (from ≤ t) × (t ≤ to)) → ((t : ℕ) → Contains ys t → (from ≤ t) × (t ≤ to)) → (t : ℕ) → Contains (xs ++ ys) t → (from ≤ t) × (t ≤ to)
   both-within xs ys l r t h = elim (Contains-append_cases xs ys t h) [ inl a ↦ l t a | inr b ↦ r t b ]
 
-  pub turns-step : (joint : Joint) (range left right : Range) (old one new : List ℕ) → IsSplit joint range left right → AreTurnsBut has (members range) entries from to old one
+  pub turns-step : (joint : Connective) (range left right : Range) (old one new : List ℕ) → IsSplit joint range left right → AreTurnsBut has (members range) entries from to old one
       → AreTurns (members right) entries from to one new → AreTurnsBut has (members left) entries from to old new
   turns-step joint range left right old one new split was turned = record {
     more = was.more ++ turned.more;
@@ -119,7 +119,7 @@ module _ (has : Version → Bool) (entries : List Entry) (from to : ℕ) where
 
 -- ---- relaxed ranges follow
 
-module _ (newer older : Bool) (has f : Version → Bool) (relaxes : Relaxes newer older has f) (v w : Version) (nv : HasNumbers v) (nw : HasNumbers w) (le : is_below w v ≡ false) (calm : IsCalm has v w) where
+module _ (newer older : Bool) (has f : Version → Bool) (relaxes : Relaxes newer older has f) (v w : Version) (nv : HasNumbers v) (nw : HasNumbers w) (le : is_below w v ≡ false) (calm : IsConstant has v w) where
   same : has w ≡ has v
   same = calm w nw le (not_itself w)
 
@@ -164,12 +164,12 @@ module _ (newer older : Bool) (has f : Version → Bool) (relaxes : Relaxes newe
         | false ↦ λ e. both_ways (f v) (f w) (λ h. (relaxes w nw).1 (up e ((relaxes v nv).0 h))) (λ h. (relaxes v nv).1 (down e ((relaxes w nw).0 h)))
       ] refl
 
-pub relaxed-follows : (newer older : Bool) (has f : Version → Bool) → Relaxes newer older has f → Follows has f
+pub relaxed-follows : (newer older : Bool) (has f : Version → Bool) → Relaxes newer older has f → IsConstantWhere has f
 relaxed-follows newer older has f relaxes v w nv nw le calm = relaxed-same newer older has f relaxes v w nv nw le calm
 
-pub itself-follows : (has : Version → Bool) → Follows has has
+pub itself-follows : (has : Version → Bool) → IsConstantWhere has has
 itself-follows has v w nv nw le calm = sym (calm w nw le (not_itself w))
 
 -- a test equal on versions with numbers follows membership too
-pub same-follows : (has f g : Version → Bool) → ((v : Version) → HasNumbers v → g v ≡ f v) → Follows has f → Follows has g
+pub same-follows : (has f g : Version → Bool) → ((v : Version) → HasNumbers v → g v ≡ f v) → IsConstantWhere has f → IsConstantWhere has g
 same-follows has f g is h v w nv nw le calm = is v nv ∙ h v w nv nw le calm ∙ sym (is w nw)

@@ -18,7 +18,7 @@ use Rattle.solver_index.specs.Allowed.{allowed_for}
 use Rattle.solver_index.specs.AllowedVersions.{allowed_versions}
 use Rattle.solver_index.specs.Places.{entry_at, no_entry, places, rising}
 use Rattle.solver_index.specs.Sources.{AreAllowed}
-use Rattle.solver_index.specs.TurningPlaces.{Follows}
+use Rattle.solver_index.specs.TurningPlaces.{IsConstantWhere}
 use Rattle.solver_index.specs.Versions.{body_has_versions, entries_have_versions, entry_has_versions, packages_have_versions}
 use Rattle.solver_index.proofs.Atoms.{has-numbers}
 use Rattle.solver_index.proofs.Calm.{itself-follows, relaxed-follows, same-follows}
@@ -54,12 +54,12 @@ places-same f g entries h =
     h (entry_at entries i) (Contains-get_or entries i no_entry (rising-below (length entries) i k)))
 
 -- the allowed versions follow the members of the range
-pub lets-follow : (project : Project) (owner : Instance) (kind : DepKind) (dep : Dep) → has_versions dep.range ≡ true → Follows (members dep.range) (allowed_for kind (allowed_versions project owner dep) dep.range)
+pub lets-follow : (project : Project) (owner : Instance) (kind : DepKind) (dep : Dep) → has_versions dep.range ≡ true → IsConstantWhere (members dep.range) (allowed_for kind (allowed_versions project owner dep) dep.range)
 lets-follow project owner Library dep versions = relaxed-follows _ _ (members dep.range) (allowed_versions project owner dep) (are-relaxed project owner dep versions)
 lets-follow project owner Tool dep versions = itself-follows (members dep.range)
 lets-follow project owner Setup dep versions = relaxed-follows _ _ (members dep.range) (allowed_versions project owner dep) (are-relaxed project owner dep versions)
 
 pub cuts-follow : (project : Project) (owner : Instance) (kind : DepKind) (dep : Dep) (cuts : List Version) → has_versions dep.range ≡ true → AreAllowed kind (allowed_versions project owner dep) dep.range cuts
-    → Follows (members dep.range) (inside cuts)
+    → IsConstantWhere (members dep.range) (inside cuts)
 cuts-follow project owner kind dep cuts versions are =
     same-follows (members dep.range) (allowed_for kind (allowed_versions project owner dep) dep.range) (inside cuts) are (lets-follow project owner kind dep versions)

@@ -7,18 +7,18 @@ use Rattle.std.proofs.lemmas.List.{append-nil}
 use Rattle.std.proofs.lemmas.List.Elements.{filter-append}
 use Rattle.std.proofs.lemmas.List.{get_or_default}
 use Rattle.solver_index.specs.Places.{between, rising}
-use Rattle.solver_index.specs.TurningPlaces.{IsFree}
+use Rattle.solver_index.specs.TurningPlaces.{HasNoTurn}
 use Rattle.solver_index.proofs.ListLaws.{between-has, between-join, between-none, rising-between}
 use Rattle.common_laws.specs.Lists.{filter-all, filter-nothing}
 
 module _ (test : ℕ → Bool) where
   pub segment-kept : (front : List ℕ) (first last : ℕ) → ((i : ℕ) → first ≤ i → i < last → test first ≡ test i) → test first ≡ true → front ++ between first last ≡ front ++ filter test (between first last)
-  segment-kept front first last even is =
-      ap (λ l. front ++ l) (sym (filter-all test (between first last) (λ i h. let within = between-has first last i h in sym (even i within.0 within.1) ∙ is)))
+  segment-kept front first last uniform is =
+      ap (λ l. front ++ l) (sym (filter-all test (between first last) (λ i h. let within = between-has first last i h in sym (uniform i within.0 within.1) ∙ is)))
 
   pub segment-dropped : (front : List ℕ) (first last : ℕ) → ((i : ℕ) → first ≤ i → i < last → test first ≡ test i) → test first ≡ false → front ≡ front ++ filter test (between first last)
-  segment-dropped front first last even is =
-      sym (append-nil front) ∙ ap (λ l. front ++ l) (sym (filter-nothing test (between first last) (λ i h. let within = between-has first last i h in sym (even i within.0 within.1) ∙ is)))
+  segment-dropped front first last uniform is =
+      sym (append-nil front) ∙ ap (λ l. front ++ l) (sym (filter-nothing test (between first last) (λ i h. let within = between-has first last i h in sym (uniform i within.0 within.1) ∙ is)))
 
   pub segment-empty : (front : List ℕ) (first last : ℕ) → last ≤ first → front ≡ front ++ filter test (between first last)
   segment-empty front first last h = sym (append-nil front) ∙ ap (λ l. front ++ filter test l) (sym (between-none first last h))
@@ -32,7 +32,7 @@ module _ (test : ℕ → Bool) where
   halves-joined n r h = segments-joined [] 0 r n (omega arith) h ∙ ap (filter test) (sym (rising-between n))
 
 -- no turn lies in a segment that ends at the next one
-pub free-segment : (turns : List ℕ) (index first i : ℕ) → IsNonDecreasing turns → index < length turns → ((k : ℕ) → k < index → get_or turns k 0 ≤ first) → i < get_or turns index 0 → IsFree turns first i
+pub free-segment : (turns : List ℕ) (index first i : ℕ) → IsNonDecreasing turns → index < length turns → ((k : ℕ) → k < index → get_or turns k 0 ≤ first) → i < get_or turns index 0 → HasNoTurn turns first i
 free-segment turns index first i rise here earlier less t (k, below, is) after =
     let same : get_or turns k 0 ≡ t = get_or_default turns k 0 t below ∙ is in
     elim (cases_lt k index) [
@@ -41,7 +41,7 @@ free-segment turns index first i rise here earlier less t (k, below, is) after =
     ]
 
 -- no turn lies in the segment behind the last turn
-pub free-end : (turns : List ℕ) (first i : ℕ) → ((k : ℕ) → k < length turns → get_or turns k 0 ≤ first) → IsFree turns first i
+pub free-end : (turns : List ℕ) (first i : ℕ) → ((k : ℕ) → k < length turns → get_or turns k 0 ≤ first) → HasNoTurn turns first i
 free-end turns first i earlier t (k, below, is) after =
     let same : get_or turns k 0 ≡ t = get_or_default turns k 0 t below ∙ is in
     let least = earlier k below in

@@ -7,7 +7,7 @@ use Rattle.plan_types.specs.declared.range.Range.TheOpen.{Range-F, Any, Nothing,
 use Rattle.plan_types.specs.declared.range.Range.TheFolds.{fold-Range}
 use Rattle.plan_types.specs.declared.version.Version.{Version}
 use Rattle.version_range.specs.Cuts.{IsSplit}
-use Rattle.version_range.specs.declared.merge.Joint.{Joint}
+use Rattle.version_range.specs.declared.merge.Connective.{Connective}
 
 -- whether a layer of a range joins no others
 abbrev pub operator_step : Range-F Bool → Bool
@@ -29,7 +29,7 @@ is_operator = fold-Range Bool operator_step
 
 -- the range joins these two
 abbrev pub IsJoin : Range → Range → Range → Type 0
-IsJoin range left right = (joint : Joint) × IsSplit joint range left right
+IsJoin range left right = (joint : Connective) × IsSplit joint range left right
 
 -- whether a version lies below the first member of a layer
 abbrev pub before_step : Range-F (Version → Bool) → Version → Bool

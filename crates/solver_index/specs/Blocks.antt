@@ -44,5 +44,5 @@ passes IsBefore range e = before range e.instance.version
 passes IsMember range e = members range e.instance.version
 
 -- in these places, each instance before one that passes also passes
-abbrev pub Falls : (Entry → Bool) → List Entry → ℕ → ℕ → Type 0
-Falls test entries from to = (i j : ℕ) → from ≤ i → i ≤ j → j < to → test (entry_at entries j) ≡ true → test (entry_at entries i) ≡ true
+abbrev pub IsPrefixClosed : (Entry → Bool) → List Entry → ℕ → ℕ → Type 0
+IsPrefixClosed test entries from to = (i j : ℕ) → from ≤ i → i ≤ j → j < to → test (entry_at entries j) ≡ true → test (entry_at entries i) ≡ true

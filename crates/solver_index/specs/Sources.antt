@@ -10,7 +10,7 @@ use Rattle.plan_types.specs.declared.index.Instance.{Instance}
 use Rattle.plan_types.specs.declared.range.Range.{Range}
 use Rattle.plan_types.specs.declared.version.Version.{Version}
 use Rattle.version_range.specs.Cuts.{HasNumbers, inside}
-use Rattle.constraint_set.specs.Stands.{StandsFor}
+use Rattle.constraint_set.specs.Stands.{Represents}
 use Rattle.qualified_goals.specs.Names.{Name}
 use Rattle.solver_index.specs.declared.dependencies.ConditionalDep.{ConditionalDep}
 use Rattle.solver_index.specs.declared.dependencies.Dependencies.{Dependencies}
@@ -59,7 +59,7 @@ entry_in s = entry_dependencies s.packages.now s.project.now s.names.now
 
 -- the constraints and units are those of the project and the packages; versions are well-formed, instances in blocks
 pub record AreReady (s : Sources) : Type 0 where
-  pub stands : StandsFor s.project.now s.names.now s.constraints.now
+  pub stands : Represents s.project.now s.names.now s.constraints.now
   pub units : AreUnits s.packages.now (length s.packages.now) s.units
   pub versions : packages_have_versions s.packages.now ≡ true
   pub blocks : AllAreInBlocks s.packages.now

@@ -9,25 +9,25 @@ use Rattle.solver_index.specs.Before.{before}
 use Rattle.solver_index.specs.Blocks.{version_at}
 
 -- membership is constant on the versions from v up to w
-abbrev pub IsCalm : (Version → Bool) → Version → Version → Type 0
-IsCalm has v w = (u : Version) → HasNumbers u → is_below u v ≡ false → is_below w u ≡ false → has u ≡ has v
+abbrev pub IsConstant : (Version → Bool) → Version → Version → Type 0
+IsConstant has v w = (u : Version) → HasNumbers u → is_below u v ≡ false → is_below w u ≡ false → has u ≡ has v
 
 -- the test f is equal at two versions wherever membership is constant from one up to the other
-abbrev pub Follows : (Version → Bool) → (Version → Bool) → Type 0
-Follows has f = (v w : Version) → HasNumbers v → HasNumbers w → is_below w v ≡ false → IsCalm has v w → f v ≡ f w
+abbrev pub IsConstantWhere : (Version → Bool) → (Version → Bool) → Type 0
+IsConstantWhere has f = (v w : Version) → HasNumbers v → HasNumbers w → is_below w v ≡ false → IsConstant has v w → f v ≡ f w
 
 -- no turn lies behind place a and at or before place b
-abbrev pub IsFree : List ℕ → ℕ → ℕ → Type 0
-IsFree turns a b = (t : ℕ) → Contains turns t → a < t → b < t
+abbrev pub HasNoTurn : List ℕ → ℕ → ℕ → Type 0
+HasNoTurn turns a b = (t : ℕ) → Contains turns t → a < t → b < t
 
 -- where no turn lies between two places, their versions are both inside the cuts or both outside
-abbrev pub AreEven : List Version → List ℕ → List Entry → ℕ → ℕ → Type 0
-AreEven cuts turns entries from to =
-    (a b : ℕ) → from ≤ a → a ≤ b → b < to → IsFree turns a b → inside cuts (version_at entries a) ≡ inside cuts (version_at entries b)
+abbrev pub AreUniform : List Version → List ℕ → List Entry → ℕ → ℕ → Type 0
+AreUniform cuts turns entries from to =
+    (a b : ℕ) → from ≤ a → a ≤ b → b < to → HasNoTurn turns a b → inside cuts (version_at entries a) ≡ inside cuts (version_at entries b)
 
 -- the versions from one place up to another are all inside the cuts or all outside
-abbrev pub IsEven : List Version → List Entry → ℕ → ℕ → Type 0
-IsEven cuts entries first last = (i : ℕ) → first ≤ i → i < last → inside cuts (version_at entries first) ≡ inside cuts (version_at entries i)
+abbrev pub IsUniform : List Version → List Entry → ℕ → ℕ → Type 0
+IsUniform cuts entries first last = (i : ℕ) → first ≤ i → i < last → inside cuts (version_at entries first) ≡ inside cuts (version_at entries i)
 
 -- the members of an operator are an interval, and `before` holds for the versions below it
 pub record IsOperator (range : Range) : Type 0 where
@@ -40,11 +40,11 @@ pub record AreTurns (has : Version → Bool) (entries : List Entry) (from to : �
   pub more : List ℕ
   pub extends : new ≡ old ++ more
   pub within : (t : ℕ) → Contains more t → (from ≤ t) × (t ≤ to)
-  pub calm : (a b : ℕ) → from ≤ a → a ≤ b → b < to → IsFree more a b → IsCalm has (version_at entries a) (version_at entries b)
+  pub calm : (a b : ℕ) → from ≤ a → a ≤ b → b < to → HasNoTurn more a b → IsConstant has (version_at entries a) (version_at entries b)
 
 -- the same, where membership in the rest of the range is constant between them
 pub record AreTurnsBut (has rest : Version → Bool) (entries : List Entry) (from to : ℕ) (old new : List ℕ) : Type 0 where
   pub more : List ℕ
   pub extends : new ≡ old ++ more
   pub within : (t : ℕ) → Contains more t → (from ≤ t) × (t ≤ to)
-  pub calm : (a b : ℕ) → from ≤ a → a ≤ b → b < to → IsFree more a b → IsCalm rest (version_at entries a) (version_at entries b) → IsCalm has (version_at entries a) (version_at entries b)
+  pub calm : (a b : ℕ) → from ≤ a → a ≤ b → b < to → HasNoTurn more a b → IsConstant rest (version_at entries a) (version_at entries b) → IsConstant has (version_at entries a) (version_at entries b)

@@ -1,7 +1,7 @@
 // Binary search for the place at which a test begins to fail.
 ghost use Rattle.std.specs.Prelude.{◌≡◌, ℕ, ◌<◌, ◌≤◌, true, false, not, length};
 ghost use Rattle.solver_index.specs.Before.{before};
-ghost use Rattle.solver_index.specs.Blocks.{Falls, passes};
+ghost use Rattle.solver_index.specs.Blocks.{IsPrefixClosed, passes};
 ghost use Rattle.solver_index.specs.Places.{entry_at};
 ghost use Rattle.plan_types.specs.Packages.{is_installed};
 
@@ -26,7 +26,7 @@ pub(crate) fn first_without(
 ) -> usize
     requires low { from ≤ to }
     requires high { to ≤ length entries.now }
-    requires falls { Falls (passes test range.now) entries.now from to }
+    requires falls { IsPrefixClosed (passes test range.now) entries.now from to }
     ensures low { from ≤ result }
     ensures high { result ≤ to }
     ensures front { (k : ℕ) → from ≤ k → k < result → passes test range.now (entry_at entries.now k) ≡ true }

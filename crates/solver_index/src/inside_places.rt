@@ -7,7 +7,7 @@ ghost use Rattle.version_range.specs.Cuts.{HasNumbers, inside};
 ghost use Rattle.version_range.specs.Version.{has_versions};
 ghost use Rattle.solver_index.specs.Blocks.{AreInBlocks, IsBlock, version_at};
 ghost use Rattle.solver_index.specs.Places.{between, places};
-ghost use Rattle.solver_index.specs.TurningPlaces.{AreEven, Follows, IsEven};
+ghost use Rattle.solver_index.specs.TurningPlaces.{AreUniform, IsConstantWhere, IsUniform};
 
 use crate::blocks::{Test, first_without};
 use crate::place_runs::PlaceRuns;
@@ -27,7 +27,7 @@ pub(crate) fn places_inside(
     requires blocks { AreInBlocks entries.now }
     requires numbers { (e : Entry) → Contains entries.now e → HasNumbers e.instance.version }
     requires versions { has_versions range.now ≡ true }
-    requires follows { Follows (members range.now) (inside cuts.now) }
+    requires follows { IsConstantWhere (members range.now) (inside cuts.now) }
     ensures { IfOk result (λ found. found ≡ places (λ e. inside cuts.now e.instance.version) entries.now) }
 {
     let count = entries.len();
@@ -49,7 +49,7 @@ fn push_block(
 ) -> Result<(), NoMemory>
     requires block { IsBlock entries.now from to }
     requires versions { has_versions range.now ≡ true }
-    requires follows { Follows (members range.now) (inside cuts.now) }
+    requires follows { IsConstantWhere (members range.now) (inside cuts.now) }
     ensures { OnOk result (found.new ≡ found.old ++ filter (λ i. inside cuts.now (version_at entries.now i)) (between from to)) }
 {
     let mut turns = List::new(alloc);
@@ -71,7 +71,7 @@ fn push_segments(
     requires high { to ≤ length entries.now }
     requires rising { IsNonDecreasing turns.now }
     requires within { (t : ℕ) → Contains turns.now t → (from ≤ t) × (t ≤ to) }
-    requires even { AreEven cuts.now turns.now entries.now from to }
+    requires uniform { AreUniform cuts.now turns.now entries.now from to }
     ensures { OnOk result (found.new ≡ found.old ++ filter (λ i. inside cuts.now (version_at entries.now i)) (between from to)) }
 {
     let mut first = from as u64;
@@ -91,7 +91,7 @@ fn push_segment(
     last: u64,
 ) -> Result<(), NoMemory>
     requires high { last ≤ length entries.now }
-    requires even { IsEven cuts.now entries.now first last }
+    requires uniform { IsUniform cuts.now entries.now first last }
     ensures { OnOk result (found.new ≡ found.old ++ filter (λ i. inside cuts.now (version_at entries.now i)) (between first last)) }
 {
     if first < last && cuts.has(&entries[first as usize].instance.version) {

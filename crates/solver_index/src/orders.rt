@@ -81,7 +81,7 @@ fn policy_of(project: &Project, wishes: &Wishes, found: &Package) -> Policy
 {
     if project.prefer_oldest {
         Policy::Oldest
-    } else if found.local || wishes.asks_for(&found.name) {
+    } else if found.local || wishes.is_extra(&found.name) {
         Policy::Latest
     } else {
         Policy::Installed

@@ -3,7 +3,7 @@ ghost use Rattle.std.specs.Prelude.{◌≡◌, List, IfOk, true};
 ghost use Rattle.plan_types.specs.declared.index.Package.{Package};
 ghost use Rattle.plan_types.specs.Packages.{entries_of};
 ghost use Rattle.qualified_goals.specs.Names.{NameTable};
-ghost use Rattle.constraint_set.specs.Stands.{StandsFor};
+ghost use Rattle.constraint_set.specs.Stands.{Represents};
 ghost use Rattle.solver_index.specs.Defaults.{AreDefaults, default_of};
 ghost use Rattle.solver_index.specs.Dependencies.{all_dependencies};
 ghost use Rattle.solver_index.specs.Blocks.{AllAreInBlocks};
@@ -52,7 +52,7 @@ impl Tables {
         names: &Names,
         constraints: &Constraints,
     ) -> Result<Tables, NoMemory>
-        requires stands { StandsFor project.now names.now constraints.now }
+        requires stands { Represents project.now names.now constraints.now }
         requires versions { packages_have_versions packages.now ≡ true }
         requires blocks { AllAreInBlocks packages.now }
         ensures orders { IfOk result (λ tables. AreOrders project.now packages.now tables.orders) }

@@ -59,7 +59,7 @@ fn ranges_of(alloc: Global, all: &[Named]) -> Result<Lists<Text, Range>, NoMemor
 
 impl Wishes {
     /// Whether a package is an extra one.
-    pub(crate) fn asks_for(&self, name: &Text) -> bool
+    pub(crate) fn is_extra(&self, name: &Text) -> bool
         ensures { result ≡ is_listed self.now.extra.keys name.now }
     {
         self.extra.contains(name)

@@ -11,41 +11,41 @@ use Rattle.plan_types.specs.declared.range.Spec.{Spec}
 use Rattle.text_grammar.specs.Parts.{Led, led, Behind, behind, Chain, one, more, Term, Terms, Worded, worded}
 use Rattle.version_range.specs.Version.{has_versions}
 use Rattle.version_range.proofs.Forms.{stands_valid}
-use Rattle.condition_text.specs.Grammar.{Versions, versions, Compiled, compiled, Atom, always, never, flag, os, arch, compiler, Factor, atom, negated, opened, Opened, Reads, reads, Stands}
+use Rattle.condition_text.specs.Grammar.{Versions, versions, Compiled, compiled, Atom, always, never, flag, os, arch, compiler, Factor, atom, negated, inner_factor, InnerFactor, Reads, reads, Stands}
 use Rattle.section_syntax.specs.declared.part.Section.{Section}
 use Rattle.package_declarations.specs.Declarations.{declares, has_flags, is_flag}
 use Rattle.section_syntax.specs.Branch.{all_of, joined}
 use Rattle.package_declarations.proofs.FlagFolds.{flagged-Flag, flagged-Not, flagged-And, flagged-Or}
-use Rattle.flatten.specs.Conditions.{asks_step, asks_well}
+use Rattle.flatten.specs.Conditions.{asks_step, is_well_formed}
 use Rattle.conditionals.specs.Environment.{system_of}
 
 module _ (known : List ℕ → Bool) where
-  pub asks-Always : asks_well known Always ≡ true
-  asks-Always = ap (asks_well known) (sym rolls-Always) ∙ fold-roll-Cond Bool (asks_step known) layer.Always
+  pub asks-Always : is_well_formed known Always ≡ true
+  asks-Always = ap (is_well_formed known) (sym rolls-Always) ∙ fold-roll-Cond Bool (asks_step known) layer.Always
 
-  pub asks-Never : asks_well known Never ≡ true
-  asks-Never = ap (asks_well known) (sym rolls-Never) ∙ fold-roll-Cond Bool (asks_step known) layer.Never
+  pub asks-Never : is_well_formed known Never ≡ true
+  asks-Never = ap (is_well_formed known) (sym rolls-Never) ∙ fold-roll-Cond Bool (asks_step known) layer.Never
 
-  asks-Flag : (name : List ℕ) → asks_well known (Flag name) ≡ known name
-  asks-Flag name = ap (asks_well known) (sym (rolls-Flag name)) ∙ fold-roll-Cond Bool (asks_step known) (layer.Flag name)
+  asks-Flag : (name : List ℕ) → is_well_formed known (Flag name) ≡ known name
+  asks-Flag name = ap (is_well_formed known) (sym (rolls-Flag name)) ∙ fold-roll-Cond Bool (asks_step known) (layer.Flag name)
 
-  asks-Os : (name : List ℕ) → asks_well known (Os name) ≡ true
-  asks-Os name = ap (asks_well known) (sym (rolls-Os name)) ∙ fold-roll-Cond Bool (asks_step known) (layer.Os name)
+  asks-Os : (name : List ℕ) → is_well_formed known (Os name) ≡ true
+  asks-Os name = ap (is_well_formed known) (sym (rolls-Os name)) ∙ fold-roll-Cond Bool (asks_step known) (layer.Os name)
 
-  asks-Arch : (name : List ℕ) → asks_well known (Arch name) ≡ true
-  asks-Arch name = ap (asks_well known) (sym (rolls-Arch name)) ∙ fold-roll-Cond Bool (asks_step known) (layer.Arch name)
+  asks-Arch : (name : List ℕ) → is_well_formed known (Arch name) ≡ true
+  asks-Arch name = ap (is_well_formed known) (sym (rolls-Arch name)) ∙ fold-roll-Cond Bool (asks_step known) (layer.Arch name)
 
-  asks-Impl : (name : List ℕ) (range : Range) → asks_well known (Impl name range) ≡ has_versions range
-  asks-Impl name range = ap (asks_well known) (sym (rolls-Impl name range)) ∙ fold-roll-Cond Bool (asks_step known) (layer.Impl name range)
+  asks-Impl : (name : List ℕ) (range : Range) → is_well_formed known (Impl name range) ≡ has_versions range
+  asks-Impl name range = ap (is_well_formed known) (sym (rolls-Impl name range)) ∙ fold-roll-Cond Bool (asks_step known) (layer.Impl name range)
 
-  pub asks-Not : (inner : Cond) → asks_well known (Not inner) ≡ asks_well known inner
-  asks-Not inner = ap (asks_well known) (sym (rolls-Not inner)) ∙ fold-roll-Cond Bool (asks_step known) (layer.Not inner)
+  pub asks-Not : (inner : Cond) → is_well_formed known (Not inner) ≡ is_well_formed known inner
+  asks-Not inner = ap (is_well_formed known) (sym (rolls-Not inner)) ∙ fold-roll-Cond Bool (asks_step known) (layer.Not inner)
 
-  pub asks-And : (left right : Cond) → asks_well known (And left right) ≡ (asks_well known left && asks_well known right)
-  asks-And left right = ap (asks_well known) (sym (rolls-And left right)) ∙ fold-roll-Cond Bool (asks_step known) (layer.And left right)
+  pub asks-And : (left right : Cond) → is_well_formed known (And left right) ≡ (is_well_formed known left && is_well_formed known right)
+  asks-And left right = ap (is_well_formed known) (sym (rolls-And left right)) ∙ fold-roll-Cond Bool (asks_step known) (layer.And left right)
 
-  asks-Or : (left right : Cond) → asks_well known (Or left right) ≡ (asks_well known left && asks_well known right)
-  asks-Or left right = ap (asks_well known) (sym (rolls-Or left right)) ∙ fold-roll-Cond Bool (asks_step known) (layer.Or left right)
+  asks-Or : (left right : Cond) → is_well_formed known (Or left right) ≡ (is_well_formed known left && is_well_formed known right)
+  asks-Or left right = ap (is_well_formed known) (sym (rolls-Or left right)) ∙ fold-roll-Cond Bool (asks_step known) (layer.Or left right)
 
 -- ---- conditions read from a text
 
@@ -53,7 +53,7 @@ module _ (known : List ℕ → Bool) where
 module _ (sections : List Section) (known : List ℕ → Bool) (found : (name : List ℕ) → declares is_flag sections name ≡ true → known name ≡ true) where
   -- well-formed, if all its flags are declared
   abbrev Fits : Cond → Type 0
-  Fits c = has_flags sections c ≡ true → asks_well known c ≡ true
+  Fits c = has_flags sections c ≡ true → is_well_formed known c ≡ true
 
   abbrev Fitting : (List ℕ → Cond → Type 0) → Type 0
   Fitting L = (text : List ℕ) (c : Cond) → L text c → Fits c
@@ -64,12 +64,12 @@ module _ (sections : List Section) (known : List ℕ → Bool) (found : (name : 
   and-joins : Joins And
   and-joins l r left right e =
       let parts = and_parts (has_flags sections l) (has_flags sections r) (sym (flagged-And sections l r) ∙ e) in
-      asks-And known l r ∙ and_from (asks_well known l) (asks_well known r) (left parts.0) (right parts.1)
+      asks-And known l r ∙ and_from (is_well_formed known l) (is_well_formed known r) (left parts.0) (right parts.1)
 
   or-joins : Joins Or
   or-joins l r left right e =
       let parts = and_parts (has_flags sections l) (has_flags sections r) (sym (flagged-Or sections l r) ∙ e) in
-      asks-Or known l r ∙ and_from (asks_well known l) (asks_well known r) (left parts.0) (right parts.1)
+      asks-Or known l r ∙ and_from (is_well_formed known l) (is_well_formed known r) (left parts.0) (right parts.1)
 
   pub not-fits : (inner : Cond) → Fits inner → Fits (Not inner)
   not-fits inner fits e = asks-Not known inner ∙ fits (sym (flagged-Not sections inner) ∙ e)
@@ -111,29 +111,29 @@ module _ (sections : List Section) (known : List ℕ → Bool) (found : (name : 
       factor-fits : Fitting (Factor Tail L)
       factor-fits text c (atom a) = atom-fits text c a
       factor-fits text c (negated blanks {text = part} {c = inner} are is) = not-fits inner (fitting part inner is)
-      factor-fits text c (opened part after is are) = terms-fit part c is
+      factor-fits text c (inner_factor part after is are) = terms-fit part c is
 
-    opened-fits : (n : ℕ) → Fitting (Opened Tail n)
-    unfolding Opened
-    opened-fits zero text c is = absurd is
-    opened-fits (suc n) text c is = factor-fits (Opened Tail n) (opened-fits n) text c is
+    inner_factor-fits : (n : ℕ) → Fitting (InnerFactor Tail n)
+    unfolding InnerFactor
+    inner_factor-fits zero text c is = absurd is
+    inner_factor-fits (suc n) text c is = factor-fits (InnerFactor Tail n) (inner_factor-fits n) text c is
 
     reads-fit : (n : ℕ) → Fitting (Reads Tail n)
-    reads-fit n text c (reads front after is are) = terms-fit (Factor Tail (Opened Tail n)) (factor-fits (Opened Tail n) (opened-fits n)) front c is
+    reads-fit n text c (reads front after is are) = terms-fit (Factor Tail (InnerFactor Tail n)) (factor-fits (InnerFactor Tail n) (inner_factor-fits n)) front c is
 
   pub stands-fits : (spec : Spec) (n : ℕ) → Fitting (Stands spec n)
   stands-fits spec n = reads-fit (Versions spec n) (versions-fit spec n) n
 
 -- ---- conjunctions
 
-all-joined : (known : List ℕ → Bool) (first : Cond) (conds : List Cond) → asks_well known first ≡ true → list_all (asks_well known) conds ≡ true → asks_well known (joined first conds) ≡ true
+all-joined : (known : List ℕ → Bool) (first : Cond) (conds : List Cond) → is_well_formed known first ≡ true → list_all (is_well_formed known) conds ≡ true → is_well_formed known (joined first conds) ≡ true
 all-joined known first [] here all = here
 all-joined known first (cond ∷ conds) here all =
-    let parts = and_parts (asks_well known cond) (list_all (asks_well known) conds) all in
-    all-joined known (And first cond) conds (asks-And known first cond ∙ and_from (asks_well known first) (asks_well known cond) here parts.0) parts.1
+    let parts = and_parts (is_well_formed known cond) (list_all (is_well_formed known) conds) all in
+    all-joined known (And first cond) conds (asks-And known first cond ∙ and_from (is_well_formed known first) (is_well_formed known cond) here parts.0) parts.1
 
-pub all-asked : (known : List ℕ → Bool) (conds : List Cond) → list_all (asks_well known) conds ≡ true → asks_well known (all_of conds) ≡ true
+pub all-asked : (known : List ℕ → Bool) (conds : List Cond) → list_all (is_well_formed known) conds ≡ true → is_well_formed known (all_of conds) ≡ true
 all-asked known [] all = asks-Always known
 all-asked known (cond ∷ conds) all =
-    let parts = and_parts (asks_well known cond) (list_all (asks_well known) conds) all in
+    let parts = and_parts (is_well_formed known cond) (list_all (is_well_formed known) conds) all in
     all-joined known cond conds parts.0 parts.1

@@ -15,7 +15,7 @@ use Rattle.package_declarations.specs.Components.{components}
 use Rattle.package_declarations.specs.Cycles.{needs}
 use Rattle.package_declarations.specs.Declarations.{own_name}
 use Rattle.package_declarations.specs.Flags.{AreFlags}
-use Rattle.description.specs.Description.{Comes, ComesTo, Describes, IsDescriptionOf, OfVersion, cabal_version, description, unless_circular, version_of}
+use Rattle.description.specs.Description.{IsFaultlessOutcome, IsFileOutcome, Describes, IsDescriptionOf, OfVersion, cabal_version, description, unless_circular, version_of}
 use Rattle.description.specs.Faults.{faults}
 use Rattle.description.specs.FaultOrder.{first}
 use Rattle.description.specs.declared.fault_order.At.{At}
@@ -59,12 +59,12 @@ module _ (items : List Element) (digest : List ℕ) (d : Description) where
       is = cc e ∙ of.is;
     }
 
-    by-heads : (name : Option (List ℕ)) (version : Option Version) → own_name file.heads ≡ name → version_of file.heads ≡ version → Comes file digest name version (Ok d) → IsOf items digest d
+    by-heads : (name : Option (List ℕ)) (version : Option Version) → own_name file.heads ≡ name → version_of file.heads ≡ version → IsFaultlessOutcome file digest name version (Ok d) → IsOf items digest d
     by-heads None version named versioned e = not-err _ e
     by-heads (Some name) None named versioned e = not-err _ e
     by-heads (Some name) (Some version) named versioned e = by-cycle name version named versioned e.0 e.1 e.2 e.3 e.4
 
-  by-faults : (spec : Spec) (file : File) → IsFile spec items file → (at : Option At) → first (faults file) ≡ at → ComesTo file digest at (Ok d) → IsOf items digest d
+  by-faults : (spec : Spec) (file : File) → IsFile spec items file → (at : Option At) → first (faults file) ≡ at → IsFileOutcome file digest at (Ok d) → IsOf items digest d
   by-faults spec file says (Some at) is e = not-err at e
   by-faults spec file says None is e = by-heads spec file says (faultless file (first-none (faults file) is)) (own_name file.heads) (version_of file.heads) refl refl e
 

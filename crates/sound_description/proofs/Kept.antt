@@ -23,7 +23,7 @@ use Rattle.package_declarations.specs.Components.{barrier, buildable, component,
 use Rattle.package_declarations.specs.Declarations.{declares, is_flag, is_known, meant}
 use Rattle.description.specs.Faults.{of_said}
 use Rattle.stanza_imports.specs.Imports.{with_imports_replaced}
-use Rattle.flatten.specs.Conditions.{asks_well}
+use Rattle.flatten.specs.Conditions.{is_well_formed}
 use Rattle.flatten.specs.Sound.{is_of_components}
 use Rattle.sound_description.proofs.Asking.{asks-Not, all-asked}
 use Rattle.sound_description.proofs.Branches.{items-good}
@@ -65,7 +65,7 @@ component-kinds kinds.Flag e = refl
 component-kinds kinds.Setup e = absurd (cc e)
 
 module _ (spec : Spec) (file : File) (known : List ℕ → Bool) (found : (name : List ℕ) → declares is_flag file.sections name ≡ true → known name ≡ true) where
-  one-well : (section : Section) → IsReadSection spec section → IsFaultless file section → IsWell (asks_well known) (is_stated file) section
+  one-well : (section : Section) → IsReadSection spec section → IsFaultless file section → IsWell (is_well_formed known) (is_stated file) section
   one-well section read faultless is =
       let kind = component-kinds section.kind is in
       let good = items-good file known found spec section.kind end read.tree [] None section.parts refl tt faultless.parts read.items in
@@ -74,59 +74,59 @@ module _ (spec : Spec) (file : File) (known : List ℕ → Bool) (found : (name 
       (λ part e. let both = and_parts (list_all (is_read is_of_components) (deps_said part.said)) (list_all (is_known file) (deps_said part.said)) e in
       all-both (is_read is_of_components) (is_known file) (deps_said part.said) both.0 both.1)
       section.parts (all-both (λ part. list_all (is_read is_of_components) (deps_said part.said)) (λ part. list_all (is_known file) (deps_said part.said)) section.parts of_kind (parts-known file section.parts faultless.parts)) in
-      all-both (λ part. list_all (asks_well known) part.branches) (λ part. list_all (is_stated file) (deps_said part.said)) section.parts good stated
+      all-both (λ part. list_all (is_well_formed known) part.branches) (λ part. list_all (is_stated file) (deps_said part.said)) section.parts good stated
 
-  each-well : (sections : List Section) → AllByRecursion (IsReadSection spec) sections → AllByRecursion (IsFaultless file) sections → AllByRecursion (IsWell (asks_well known) (is_stated file)) sections
+  each-well : (sections : List Section) → AllByRecursion (IsReadSection spec) sections → AllByRecursion (IsFaultless file) sections → AllByRecursion (IsWell (is_well_formed known) (is_stated file)) sections
   each-well [] read faultless = tt
   each-well (section ∷ sections) read faultless = (one-well section read.0 faultless.0, each-well sections read.1 faultless.1)
 
-  pub replaced-well : AllByRecursion (IsReadSection spec) file.sections → AllByRecursion (IsFaultless file) file.sections → AllByRecursion (IsWell (asks_well known) (is_stated file)) (with_imports_replaced file.sections)
-  replaced-well read faultless = sections-well (asks_well known) (is_stated file) file.sections (each-well file.sections read faultless)
+  pub replaced-well : AllByRecursion (IsReadSection spec) file.sections → AllByRecursion (IsFaultless file) file.sections → AllByRecursion (IsWell (is_well_formed known) (is_stated file)) (with_imports_replaced file.sections)
+  replaced-well read faultless = sections-well (is_well_formed known) (is_stated file) file.sections (each-well file.sections read faultless)
 
 -- ---- a component
 
 module _ (known : List ℕ → Bool) (name : List ℕ) (others : List Component) where
   abbrev pub is_guarded_well : GuardedDep → Bool
-  is_guarded_well guarded = asks_well known guarded.when && is_kept name others guarded.dep
+  is_guarded_well guarded = is_well_formed known guarded.when && is_kept name others guarded.dep
 
   -- a component with well-formed conditions and kept dependencies
   abbrev pub is_component_well : Component → Bool
-  is_component_well component = asks_well known component.buildable && list_all is_guarded_well component.deps
+  is_component_well component = is_well_formed known component.buildable && list_all is_guarded_well component.deps
 
   module _ (file : File) (kept : (dep : Dep) → is_stated file dep ≡ true → is_kept name others (meant file dep) ≡ true) where
     abbrev is_part : SectionPart → Bool
-    is_part = is_well (asks_well known) (is_stated file)
+    is_part = is_well (is_well_formed known) (is_stated file)
 
-    branches-asked : (part : SectionPart) → is_part part ≡ true → asks_well known (all_of part.branches) ≡ true
-    branches-asked part well = all-asked known part.branches (and_parts (list_all (asks_well known) part.branches) (list_all (is_stated file) (deps_said part.said)) well).0
+    branches-asked : (part : SectionPart) → is_part part ≡ true → is_well_formed known (all_of part.branches) ≡ true
+    branches-asked part well = all-asked known part.branches (and_parts (list_all (is_well_formed known) part.branches) (list_all (is_stated file) (deps_said part.said)) well).0
 
     guarded-well : (part : SectionPart) → is_part part ≡ true → list_all is_guarded_well (guarded file part) ≡ true
     guarded-well part well =
         all-map (is_stated file) is_guarded_well (λ dep. record { when = all_of part.branches; dep = meant file dep })
-        (λ dep e. and_from (asks_well known (all_of part.branches)) (is_kept name others (meant file dep)) (branches-asked part well) (kept dep e))
-        (deps_said part.said) (and_parts (list_all (asks_well known) part.branches) (list_all (is_stated file) (deps_said part.said)) well).1
+        (λ dep e. and_from (is_well_formed known (all_of part.branches)) (is_kept name others (meant file dep)) (branches-asked part well) (kept dep e))
+        (deps_said part.said) (and_parts (list_all (is_well_formed known) part.branches) (list_all (is_stated file) (deps_said part.said)) well).1
 
-    barrier-asked : (part : SectionPart) → is_part part ≡ true → list_all (asks_well known) (barrier part) ≡ true
+    barrier-asked : (part : SectionPart) → is_part part ≡ true → list_all (is_well_formed known) (barrier part) ≡ true
     barrier-asked part well =
-        elim (unbuildable_said part.said) as (λ b. list_all (asks_well known) (if b then Not (all_of part.branches) ∷ [] else []) ≡ true) [
-          | true ↦ and_from (asks_well known (Not (all_of part.branches))) true (asks-Not known (all_of part.branches) ∙ branches-asked part well) refl
+        elim (unbuildable_said part.said) as (λ b. list_all (is_well_formed known) (if b then Not (all_of part.branches) ∷ [] else []) ≡ true) [
+          | true ↦ and_from (is_well_formed known (Not (all_of part.branches))) true (asks-Not known (all_of part.branches) ∙ branches-asked part well) refl
           | false ↦ refl
         ]
 
     component-well : (section : Section) (kind : CompKind) → list_all is_part section.parts ≡ true → is_component_well (component file section kind) ≡ true
     component-well section kind well =
-        and_from (asks_well known (buildable section.parts)) (list_all is_guarded_well (flat_map (guarded file) section.parts))
-        (all-asked known (flat_map barrier section.parts) (all-flat is_part (asks_well known) barrier barrier-asked section.parts well))
+        and_from (is_well_formed known (buildable section.parts)) (list_all is_guarded_well (flat_map (guarded file) section.parts))
+        (all-asked known (flat_map barrier section.parts) (all-flat is_part (is_well_formed known) barrier barrier-asked section.parts well))
         (all-flat is_part is_guarded_well (guarded file) guarded-well section.parts well)
 
-    one-component : (section : Section) → IsWell (asks_well known) (is_stated file) section → (kind : SectionKind) → section.kind ≡ kind → list_all is_component_well (component_in file section) ≡ true
+    one-component : (section : Section) → IsWell (is_well_formed known) (is_stated file) section → (kind : SectionKind) → section.kind ≡ kind → list_all is_component_well (component_in file section) ≡ true
     one-component section well (kinds.Component kind) is =
         rw is (and_from (is_component_well (component file section kind)) true (component-well section kind (well (ap is_component_part is))) refl)
     one-component section well kinds.Common is = rw is refl
     one-component section well kinds.Flag is = rw is refl
     one-component section well kinds.Setup is = rw is refl
 
-    pub components-well : (sections : List Section) → AllByRecursion (IsWell (asks_well known) (is_stated file)) sections → list_all is_component_well (flat_map (component_in file) sections) ≡ true
+    pub components-well : (sections : List Section) → AllByRecursion (IsWell (is_well_formed known) (is_stated file)) sections → list_all is_component_well (flat_map (component_in file) sections) ≡ true
     components-well [] each = refl
     components-well (section ∷ sections) each =
         all-append is_component_well (component_in file section) (flat_map (component_in file) sections) (one-component section each.0 section.kind refl) (components-well sections each.1)

@@ -25,7 +25,7 @@ use Rattle.section_syntax.specs.declared.part.SectionKind.TheVariants as kinds
 use Rattle.section_syntax.specs.declared.words.HeadWord.{HeadWord}
 use Rattle.section_syntax.specs.declared.words.HeadWord.TheVariants as words
 use Rattle.package_declarations.specs.Declarations.{joined, name_said, own_name}
-use Rattle.text_grammar.specs.Last.{last_said}
+use Rattle.text_grammar.specs.Last.{last_given}
 use Rattle.description.specs.Description.{version_said, version_of}
 use Rattle.common_laws.specs.Passing.{all-append}
 
@@ -121,11 +121,11 @@ if-some p (Some x) = p x
 
 -- the last value passes if all values do
 last-good : {A B : Type 0} (q : A → Bool) (p : B → Bool) (of : A → Option B) → ((x : A) → q x ≡ true → if-some p (of x) ≡ true) → (xs : List A) (v : B)
-    → list_all q xs ≡ true → last_said of xs ≡ Some v → p v ≡ true
+    → list_all q xs ≡ true → last_given of xs ≡ Some v → p v ≡ true
 last-good q p of said [] v all e = absurd (cc e)
 last-good q p of said (x ∷ xs) v all e =
     let here = and_parts (q x) (list_all q xs) all in
-    elim (last_said of xs) as (λ o. last_said of xs ≡ o → p v ≡ true) [
+    elim (last_given of xs) as (λ o. last_given of xs ≡ o → p v ≡ true) [
       | None ↦ λ is. ap (if-some p) (sym (sym (ap (λ o. option_or o (of x)) is) ∙ e)) ∙ said x here.0
       | Some w ↦ λ is. last-good q p of said xs v here.1 (is ∙ sym (ap (λ o. option_or o (of x)) is) ∙ e)
     ] refl
@@ -156,7 +156,7 @@ module _ (spec : Spec) (tree : Tree) (heads : List HeadField) (sections : List S
   name-formed name e =
       last-good is_good_field is_good_name (λ one. name_said one.head) (λ one. said-names one.head) heads (Some name)
       (heads-good spec tree heads sections says)
-      (joined-some (last_said (λ one. name_said one.head) heads) name e)
+      (joined-some (last_given (λ one. name_said one.head) heads) name e)
 
   pub version-formed : (version : Version) → version_of heads ≡ Some version → is_version version.parts ≡ true
   version-formed version e =

@@ -25,8 +25,8 @@ use Rattle.package_declarations.specs.Flags.{AreFlags}
 use Rattle.stanza_imports.specs.Imports.{with_imports_replaced}
 use Rattle.package_declarations.specs.Setup.{setup}
 use Rattle.description.specs.declared.faults.Class.TheVariants.{Component as OfComponent, Flag as OfFlag}
-use Rattle.flatten.specs.Conditions.{asks_well}
-use Rattle.flatten.specs.Demands.{Outward, external, outward, outward_in, outward_of}
+use Rattle.flatten.specs.Conditions.{is_well_formed}
+use Rattle.flatten.specs.Demands.{ExternalDep, external, outward, outward_in, outward_of}
 use Rattle.flatten.specs.OwnComponents.{finds_all}
 use Rattle.flatten.specs.Sound.{IsDescription, asked_packages, component_deps, conditions, declares_flag, is_of_components, is_of_setup}
 use Rattle.sound_description.proofs.Apart.{libraries_apart}
@@ -83,11 +83,11 @@ module _ (spec : Spec) (file : File) (digest name : List ℕ) (version : Version
       (replaced-well spec file (declares_flag whole) (flag_found file.sections flags flags_are) read faultless)
 
   deps-of : (c : Component) → is_well c ≡ true → list_all is_guarded c.deps ≡ true
-  deps-of c e = (and_parts (asks_well (declares_flag whole) c.buildable) (list_all is_guarded c.deps) e).1
+  deps-of c e = (and_parts (is_well_formed (declares_flag whole) c.buildable) (list_all is_guarded c.deps) e).1
 
   deps-kept : list_all (is_kept name all_components) (component_deps whole) ≡ true
   deps-kept = all-flat is_well (is_kept name all_components) (λ component. map (λ guarded. guarded.dep) component.deps)
-      (λ c e. all-map is_guarded (is_kept name all_components) (λ guarded. guarded.dep) (λ g h. (and_parts (asks_well (declares_flag whole) g.when) (is_kept name all_components g.dep) h).1) c.deps (deps-of c e))
+      (λ c e. all-map is_guarded (is_kept name all_components) (λ guarded. guarded.dep) (λ g h. (and_parts (is_well_formed (declares_flag whole) g.when) (is_kept name all_components g.dep) h).1) c.deps (deps-of c e))
       all_components all-well
 
   abbrev is_found : Dep → Bool
@@ -105,9 +105,9 @@ module _ (spec : Spec) (file : File) (digest name : List ℕ) (version : Version
   components-distinct : IsDistinct same_text (map (λ component. component.name) all_components)
   components-distinct = subst (IsDistinct same_text) (sym (component-names file file.sections)) (once OfComponent file.sections components_once)
 
-  conditions-well : list_all (asks_well (declares_flag whole)) (conditions whole) ≡ true
+  conditions-well : list_all (is_well_formed (declares_flag whole)) (conditions whole) ≡ true
   conditions-well =
-      let asks = asks_well (declares_flag whole) in
+      let asks = is_well_formed (declares_flag whole) in
       all-flat is_well asks (λ component. component.buildable ∷ map (λ guarded. guarded.when) component.deps)
       (λ c e. and_from (asks c.buildable) (list_all asks (map (λ (guarded : GuardedDep). guarded.when) c.deps)) (and_parts (asks c.buildable) (list_all is_guarded c.deps) e).0
       (all-map is_guarded asks (λ guarded. guarded.when) (λ g h. (and_parts (asks g.when) (is_kept name all_components g.dep) h).0) c.deps (deps-of c e)))
@@ -133,14 +133,14 @@ module _ (spec : Spec) (file : File) (digest name : List ℕ) (version : Version
 
   pub asked : list_all is_package_name (asked_packages whole) ≡ true
   asked =
-      let of_at = λ (at : Outward). is_package_name at.guarded.dep.«package» in
+      let of_at = λ (at : ExternalDep). is_package_name at.guarded.dep.«package» in
       let of_guarded = λ (g : GuardedDep). is_package_name g.dep.«package» in
       all-append is_package_name (map (λ at. at.guarded.dep.«package») (outward whole)) (map (λ dep. dep.«package») (setup file))
       (all-map of_at is_package_name (λ at. at.guarded.dep.«package») (λ at e. e) (outward whole)
       (all-flat is_well of_at outward_in
       (λ c e. all-map of_guarded of_at (outward_of c) (λ g h. h) (external c.deps)
       (all-filter of_guarded (λ guarded. not guarded.dep.internal) c.deps
-      (all-less is_guarded of_guarded (λ g h. (kept-parts g.dep (and_parts (asks_well (declares_flag whole) g.when) (is_kept name all_components g.dep) h).1).1) c.deps (deps-of c e))))
+      (all-less is_guarded of_guarded (λ g h. (kept-parts g.dep (and_parts (is_well_formed (declares_flag whole) g.when) (is_kept name all_components g.dep) h).1).1) c.deps (deps-of c e))))
       all_components all-well))
       (all-map (is_read is_of_setup) is_package_name (λ dep. dep.«package») (λ dep e. (setup-parts dep e).2) (setup file) setup-is)
 

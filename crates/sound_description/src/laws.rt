@@ -11,12 +11,12 @@ ghost use Rattle.description.specs.Description.{Describes};
 ghost use Rattle.flatten.specs.Sound.{IsDescription, asked_packages};
 
 /// A description read from elements is sound.
-pub fn what_is_described_is_sound()
+pub fn descriptions_are_sound()
     ensures { (items : List Element) (digest : List ℕ) (d : Description) → Describes items digest (Ok d) → IsDescription d }
 {}
 
 /// Its name, its version and the names of the packages that it depends on are well-formed, and it keeps the digest.
-pub fn what_is_described_has_forms()
+pub fn descriptions_are_well_formed()
     ensures name { (items : List Element) (digest : List ℕ) (d : Description) → Describes items digest (Ok d)
         → is_package_name d.name ≡ true }
     ensures version { (items : List Element) (digest : List ℕ) (d : Description) → Describes items digest (Ok d)

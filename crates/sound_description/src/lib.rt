@@ -5,4 +5,4 @@
 
 mod laws;
 
-pub use laws::{what_is_described_has_forms, what_is_described_is_sound};
+pub use laws::{descriptions_are_well_formed, descriptions_are_sound};

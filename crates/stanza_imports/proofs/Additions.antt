@@ -14,7 +14,7 @@ use Rattle.section_syntax.specs.declared.part.SectionKind.TheVariants as kinds
 use Rattle.stanza_imports.specs.Imports.{under}
 use Rattle.stanza_imports.specs.KnownStanzas.{Stanzas, all_replaced, parts_of, sections_from, stanzas_behind}
 use Rattle.stanza_imports.specs.Names.{has, with_name}
-use Rattle.stanza_imports.specs.Standing.{IsMore, Means, Knows, Standing, all_behind, is_within}
+use Rattle.stanza_imports.specs.Standing.{IsMore, ExpandsTo, Knows, AreBodiesSoFar, all_behind, is_within}
 use Rattle.stanza_imports.specs.declared.stanzas.Body.{Body}
 use Rattle.stanza_imports.specs.declared.stanzas.Bodies.{Bodies}
 use Rattle.stanza_imports.specs.declared.stanzas.Built.{Built}
@@ -24,7 +24,7 @@ use Rattle.stanza_imports.proofs.BodyMeanings.{steps_kept, steps_below}
 use Rattle.stanza_imports.proofs.BodyTurns.{in_turn-append}
 use Rattle.stanza_imports.proofs.InOrder.{from-known}
 use Rattle.std.proofs.lemmas.Bool.{and_from, and_parts}
-use Rattle.stanza_imports.specs.Bodies.{body_parts, table, summary, built_component, shown_in, Stand}
+use Rattle.stanza_imports.specs.Bodies.{body_parts, table, summary, built_component, shown_in, AreBodiesOf}
 
 -- an import
 pub imported : (known : Stanzas) (part : SectionPart) (names : List (List ℕ)) (fits : Bool) → part.said ≡ said.Import names fits →
@@ -47,7 +47,7 @@ table-push : (bodies : List Body) (body : Body) → table (bodies ++ body ∷ []
 table-push bodies body = in_turn-append body_parts [] bodies (body ∷ [])
 
 -- a stanza
-module _ (known : Stanzas) (name : List ℕ) (parts : List SectionPart) (body : Body) (old new : tables.Stanzas) (knows : Knows known old) (means : Means old.bodies.items body parts) where
+module _ (known : Stanzas) (name : List ℕ) (parts : List SectionPart) (body : Body) (old new : tables.Stanzas) (knows : Knows known old) (means : ExpandsTo old.bodies.items body parts) where
   pub knows_new : has old.names name ≡ false → new.names ≡ with_name old.names name → new.bodies.items ≡ old.bodies.items ++ body ∷ [] → Knows (known ++ (name, parts) ∷ []) new
   knows_new is names bodies =
       let one : List ℕ × List SectionPart = (name, parts) in
@@ -128,19 +128,19 @@ shown_one line name parts kinds.Common kind is = absurd (cc is)
 shown_one line name parts kinds.Flag kind is = absurd (cc is)
 shown_one line name parts kinds.Setup kind is = absurd (cc is)
 
-pub nothing_yet : (bodies : Bodies) → Knows [] bodies.stanzas → bodies.built.items ≡ [] → Standing [] bodies
+pub nothing_yet : (bodies : Bodies) → Knows [] bodies.stanzas → bodies.built.items ≡ [] → AreBodiesSoFar [] bodies
 nothing_yet bodies knows none = record {
   knows = knows;
   within = ap (list_all (λ (b : Built). is_within (length bodies.stanzas.bodies.items) b.body)) none;
   shown = ap (map (built_component (table bodies.stanzas.bodies.items))) none;
 }
 
-pub stands : (sections : List Section) (bodies : Bodies) → Standing sections bodies → Stand sections bodies
+pub stands : (sections : List Section) (bodies : Bodies) → AreBodiesSoFar sections bodies → AreBodiesOf sections bodies
 stands sections bodies standing = record { shown = standing.shown ∙ ap (flat_map shown_in) (sym (from-known sections)) }
 
-module _ (sections : List Section) (section : Section) (old new : Bodies) (standing : Standing sections old) where
+module _ (sections : List Section) (section : Section) (old new : Bodies) (standing : AreBodiesSoFar sections old) where
   pub common : section.kind ≡ kinds.Common → Knows (all_behind [] sections ++ (section.name, all_replaced (all_behind [] sections) section.parts) ∷ []) new.stanzas →
-      IsMore old.stanzas.bodies.items new.stanzas.bodies.items → new.built.items ≡ old.built.items → Standing (sections ++ section ∷ []) new
+      IsMore old.stanzas.bodies.items new.stanzas.bodies.items → new.built.items ≡ old.built.items → AreBodiesSoFar (sections ++ section ∷ []) new
   common kind knows is_more same = record {
     knows = rw behind-push (rw kind knows);
     within =
@@ -153,8 +153,8 @@ module _ (sections : List Section) (section : Section) (old new : Bodies) (stand
         ∙ sym (shown-push sections section ∙ rw kind (append-nil (flat_map shown_in (sections_from [] sections))));
   }
 
-  pub component : (kind : CompKind) (body : Body) (one : Built) → section.kind ≡ kinds.Component kind → Means old.stanzas.bodies.items body (all_replaced (all_behind [] sections) section.parts) →
-      new.stanzas ≡ old.stanzas → new.built.items ≡ old.built.items ++ one ∷ [] → one.section.now ≡ section → one.kind ≡ kind → one.body ≡ body → Standing (sections ++ section ∷ []) new
+  pub component : (kind : CompKind) (body : Body) (one : Built) → section.kind ≡ kinds.Component kind → ExpandsTo old.stanzas.bodies.items body (all_replaced (all_behind [] sections) section.parts) →
+      new.stanzas ≡ old.stanzas → new.built.items ≡ old.built.items ++ one ∷ [] → one.section.now ≡ section → one.kind ≡ kind → one.body ≡ body → AreBodiesSoFar (sections ++ section ∷ []) new
   component kind body one is means stanzas built its_section its_kind its_body = record {
     knows = rw behind-push (rw is (subst (λ s. Knows (all_behind [] sections) s) (sym stanzas) standing.knows));
     within =
@@ -173,14 +173,14 @@ module _ (sections : List Section) (section : Section) (old new : Bodies) (stand
         (shown_one section.line section.name (all_replaced (all_behind [] sections) section.parts) section.kind kind is));
   }
 
-  pub flag : section.kind ≡ kinds.Flag → new ≡ old → Standing (sections ++ section ∷ []) new
+  pub flag : section.kind ≡ kinds.Flag → new ≡ old → AreBodiesSoFar (sections ++ section ∷ []) new
   flag kind same = rw same (record {
     knows = rw behind-push (rw kind standing.knows);
     within = standing.within;
     shown = standing.shown ∙ sym (shown-push sections section ∙ rw kind (append-nil (flat_map shown_in (sections_from [] sections))));
   })
 
-  pub setup : section.kind ≡ kinds.Setup → new ≡ old → Standing (sections ++ section ∷ []) new
+  pub setup : section.kind ≡ kinds.Setup → new ≡ old → AreBodiesSoFar (sections ++ section ∷ []) new
   setup kind same = rw same (record {
     knows = rw behind-push (rw kind standing.knows);
     within = standing.within;

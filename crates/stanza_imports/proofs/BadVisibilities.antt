@@ -12,7 +12,7 @@ use Rattle.stanza_imports.specs.declared.stanzas.Bodies.{Bodies}
 use Rattle.stanza_imports.specs.declared.stanzas.Built.{Built}
 use Rattle.stanza_imports.proofs.FirstLines.{lesser-lesser, lesser-none, first_line-append}
 use Rattle.common_laws.specs.Lists.{map-map}
-use Rattle.stanza_imports.specs.Bodies.{table, first_bad, Shown, built_component, shown_in, Stand}
+use Rattle.stanza_imports.specs.Bodies.{table, first_bad, Shown, built_component, shown_in, AreBodiesOf}
 use Rattle.stanza_imports.specs.Parts.{is_named_library, bad_visibility, bad_visibilities}
 
 -- the least of the lines that are there
@@ -51,7 +51,7 @@ of_sections : (sections : List Section) → least (map bad_shown (flat_map shown
 of_sections [] = refl
 of_sections (section ∷ sections) = of_section section section.kind (flat_map bad_visibilities sections) (flat_map shown_in sections) refl (of_sections sections)
 
-pub worst_of : (sections : List Section) (bodies : Bodies) → Stand sections bodies → worst bodies.built.items ≡ first_line (flat_map bad_visibilities (with_imports_replaced sections))
+pub worst_of : (sections : List Section) (bodies : Bodies) → AreBodiesOf sections bodies → worst bodies.built.items ≡ first_line (flat_map bad_visibilities (with_imports_replaced sections))
 worst_of sections bodies stand =
     ap least (sym (map-map (built_component (table bodies.stanzas.bodies.items)) bad_shown bodies.built.items))
     ∙ ap (λ v. least (map bad_shown v)) stand.shown

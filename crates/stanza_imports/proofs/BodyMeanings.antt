@@ -14,7 +14,7 @@ use Rattle.stanza_imports.specs.Lines.{first_line, lesser}
 use Rattle.stanza_imports.specs.Imports.{under}
 use Rattle.stanza_imports.specs.KnownStanzas.{Stanzas, parts_of}
 use Rattle.stanza_imports.specs.Names.{number_of}
-use Rattle.stanza_imports.specs.Standing.{Means, Knows, is_below, joined, summary_under}
+use Rattle.stanza_imports.specs.Standing.{ExpandsTo, Knows, is_below, joined, summary_under}
 use Rattle.stanza_imports.specs.declared.stanzas.Body.{Body}
 use Rattle.stanza_imports.specs.declared.stanzas.Stanzas as tables
 use Rattle.stanza_imports.specs.declared.stanzas.Step.{Step}
@@ -64,7 +64,7 @@ summary-under (c ∷ branches) parts =
 -- one more step
 pub means_more : (stanzas : List Body) (old new : Body) (said parts : List SectionPart) (one : Step) → new.steps.items ≡ old.steps.items ++ one ∷ [] →
     step_parts (table stanzas) one ≡ parts → is_below (length stanzas) one ≡ true → new.summary ≡ joined old.summary (summary parts) →
-    Means stanzas old said → Means stanzas new (said ++ parts)
+    ExpandsTo stanzas old said → ExpandsTo stanzas new (said ++ parts)
 means_more stanzas old new said parts one steps is below told means = record {
   parts =
       ap (flat_map (step_parts (table stanzas))) steps
@@ -78,7 +78,7 @@ means_more stanzas old new said parts one steps is below told means = record {
 }
 
 -- no more parts
-pub means_same : (stanzas : List Body) (body : Body) (said parts : List SectionPart) → parts ≡ [] → Means stanzas body said → Means stanzas body (said ++ parts)
+pub means_same : (stanzas : List Body) (body : Body) (said parts : List SectionPart) → parts ≡ [] → ExpandsTo stanzas body said → ExpandsTo stanzas body (said ++ parts)
 means_same stanzas body said parts none means = rw none (rw (append-nil said) means)
 
 -- the stanza of a number

@@ -8,7 +8,7 @@ use Rattle.common_laws.specs.Each.{each-append, each-of-map}
 use Rattle.plan_types.specs.Bytes.{same_text}
 use Rattle.plan_types.specs.declared.condition.Cond.{Cond}
 use Rattle.section_syntax.specs.Branch.{condition}
-use Rattle.section_syntax.specs.Chained.{AreChained, FitsBehind, StandInBranches, begun}
+use Rattle.section_syntax.specs.Chained.{AreChained, FitsBehind, AreSectionParts, begun}
 use Rattle.section_syntax.specs.declared.branch.Branch.{Branch}
 use Rattle.section_syntax.specs.declared.part.SectionPart.{SectionPart}
 use Rattle.section_syntax.specs.declared.part.Said.{Said}
@@ -17,7 +17,7 @@ use Rattle.section_syntax.specs.declared.part.Section.{Section}
 use Rattle.section_syntax.specs.declared.part.SectionKind.{SectionKind}
 use Rattle.section_syntax.specs.declared.part.SectionKind.TheVariants as kinds
 use Rattle.section_syntax.proofs.Chained.{chained-behind, chained-part, first-stands}
-use Rattle.stanza_imports.specs.Bodies.{Shown, Stand, body_parts, built_component, shown_in, table}
+use Rattle.stanza_imports.specs.Bodies.{Shown, AreBodiesOf, body_parts, built_component, shown_in, table}
 use Rattle.stanza_imports.specs.Imports.{parts_for, under, with_imports_replaced}
 use Rattle.stanza_imports.specs.KnownStanzas.{Stanzas, all_replaced, parts_of, sections_from, stanzas_behind}
 use Rattle.stanza_imports.specs.declared.stanzas.Bodies.{Bodies}
@@ -40,7 +40,7 @@ under-chained outer opened (part ∷ parts) more chained rest =
     subst (λ v. AreChained v (under (map condition outer) part ∷ others)) (append_assoc outer first.front first.back ∙ ap (λ v. outer ++ v) (sym first.split))
     (chained-part (outer ++ first.front) first.back (under (map condition outer) part) others stands behind first.fits)
 
-module _ (of_stanza : List ℕ → List SectionPart) (each : (name : List ℕ) → StandInBranches (of_stanza name)) where
+module _ (of_stanza : List ℕ → List SectionPart) (each : (name : List ℕ) → AreSectionParts (of_stanza name)) where
   names-chained : (outer : List Branch) (names : List (List ℕ)) (more : List SectionPart) → AreChained outer more →
       AreChained outer (flat_map (λ name. map (under (map condition outer)) (of_stanza name)) names ++ more)
   names-chained outer [] more rest = rest
@@ -78,29 +78,29 @@ module _ (of_stanza : List ℕ → List SectionPart) (each : (name : List ℕ) �
 
 -- the parts of each stanza are chained
 abbrev StanzasChained : Stanzas → Type 0
-StanzasChained stanzas = AllByRecursion (λ one. StandInBranches one.1) stanzas
+StanzasChained stanzas = AllByRecursion (λ one. AreSectionParts one.1) stanzas
 
 -- the parts of each section are chained
 abbrev SectionsChained : List Section → Type 0
-SectionsChained sections = AllByRecursion (λ one. StandInBranches one.parts) sections
+SectionsChained sections = AllByRecursion (λ one. AreSectionParts one.parts) sections
 
-found-chained : (stanzas : Stanzas) (name : List ℕ) → StanzasChained stanzas → StandInBranches (parts_of stanzas name)
+found-chained : (stanzas : Stanzas) (name : List ℕ) → StanzasChained stanzas → AreSectionParts (parts_of stanzas name)
 unfolding AreChained
 found-chained [] name chained = tt
 found-chained (one ∷ stanzas) name chained =
-    elim (same_text name one.0) as (λ b. StandInBranches (if b then one.1 else parts_of stanzas name)) [
+    elim (same_text name one.0) as (λ b. AreSectionParts (if b then one.1 else parts_of stanzas name)) [
       | true ↦ chained.0
       | false ↦ found-chained stanzas name chained.1
     ]
 
-all-chained : (stanzas : Stanzas) (parts : List SectionPart) → StanzasChained stanzas → StandInBranches parts → StandInBranches (all_replaced stanzas parts)
+all-chained : (stanzas : Stanzas) (parts : List SectionPart) → StanzasChained stanzas → AreSectionParts parts → AreSectionParts (all_replaced stanzas parts)
 all-chained stanzas parts known chained = replaced-chained (parts_of stanzas) (λ name. found-chained stanzas name known) [] parts chained
 
-known-chained : (stanzas : Stanzas) (line : ℕ) (kind : SectionKind) (name : List ℕ) (parts : List SectionPart) → StanzasChained stanzas → StandInBranches parts →
+known-chained : (stanzas : Stanzas) (line : ℕ) (kind : SectionKind) (name : List ℕ) (parts : List SectionPart) → StanzasChained stanzas → AreSectionParts parts →
     StanzasChained (stanzas_behind stanzas (record { line = line; kind = kind; name = name; parts = parts }))
 known-chained stanzas line (kinds.Component kind) name parts known chained = known
 known-chained stanzas line kinds.Common name parts known chained =
-    each-append (λ (one : List ℕ × List SectionPart). StandInBranches one.1) stanzas ((name, all_replaced stanzas parts) ∷ []) known (all-chained stanzas parts known chained, tt)
+    each-append (λ (one : List ℕ × List SectionPart). AreSectionParts one.1) stanzas ((name, all_replaced stanzas parts) ∷ []) known (all-chained stanzas parts known chained, tt)
 known-chained stanzas line kinds.Flag name parts known chained = known
 known-chained stanzas line kinds.Setup name parts known chained = known
 
@@ -114,36 +114,36 @@ from-chained stanzas (section ∷ sections) known chained = (
 each-section : (sections : List Section) → SectionsChained sections → SectionsChained (with_imports_replaced sections)
 each-section sections chained = subst SectionsChained (sym (from-known sections)) (from-chained [] sections tt chained)
 
-pub sections-chained : (sections : List Section) → All (λ one. StandInBranches one.parts) sections → All (λ one. StandInBranches one.parts) (with_imports_replaced sections)
+pub sections-chained : (sections : List Section) → All (λ one. AreSectionParts one.parts) sections → All (λ one. AreSectionParts one.parts) (with_imports_replaced sections)
 sections-chained sections chained =
-    let P = λ (one : Section). StandInBranches one.parts in
+    let P = λ (one : Section). AreSectionParts one.parts in
     All-from_recursion P (with_imports_replaced sections) (each-section sections (recursion_from_All P sections chained))
 
 -- ---- components
 
-section-shown : (line : ℕ) (kind : SectionKind) (name : List ℕ) (parts : List SectionPart) → StandInBranches parts →
-    AllByRecursion (λ one. StandInBranches one.section.parts) (shown_in (record { line = line; kind = kind; name = name; parts = parts }))
+section-shown : (line : ℕ) (kind : SectionKind) (name : List ℕ) (parts : List SectionPart) → AreSectionParts parts →
+    AllByRecursion (λ one. AreSectionParts one.section.parts) (shown_in (record { line = line; kind = kind; name = name; parts = parts }))
 section-shown line (kinds.Component kind) name parts chained = (chained, tt)
 section-shown line kinds.Common name parts chained = tt
 section-shown line kinds.Flag name parts chained = tt
 section-shown line kinds.Setup name parts chained = tt
 
-each-shown : (sections : List Section) → SectionsChained sections → AllByRecursion (λ one. StandInBranches one.section.parts) (flat_map shown_in sections)
+each-shown : (sections : List Section) → SectionsChained sections → AllByRecursion (λ one. AreSectionParts one.section.parts) (flat_map shown_in sections)
 each-shown [] chained = tt
 each-shown (section ∷ sections) chained =
-    each-append (λ (one : Shown). StandInBranches one.section.parts) (shown_in section) (flat_map shown_in sections)
+    each-append (λ (one : Shown). AreSectionParts one.section.parts) (shown_in section) (flat_map shown_in sections)
     (section-shown section.line section.kind section.name section.parts chained.0) (each-shown sections chained.1)
 
-pub shown-chained : (sections : List Section) → All (λ one. StandInBranches one.parts) sections → All (λ one. StandInBranches one.section.parts) (flat_map shown_in (with_imports_replaced sections))
+pub shown-chained : (sections : List Section) → All (λ one. AreSectionParts one.parts) sections → All (λ one. AreSectionParts one.section.parts) (flat_map shown_in (with_imports_replaced sections))
 shown-chained sections chained =
-    All-from_recursion (λ (one : Shown). StandInBranches one.section.parts) (flat_map shown_in (with_imports_replaced sections))
-    (each-shown (with_imports_replaced sections) (each-section sections (recursion_from_All (λ (one : Section). StandInBranches one.parts) sections chained)))
+    All-from_recursion (λ (one : Shown). AreSectionParts one.section.parts) (flat_map shown_in (with_imports_replaced sections))
+    (each-shown (with_imports_replaced sections) (each-section sections (recursion_from_All (λ (one : Section). AreSectionParts one.parts) sections chained)))
 
-pub bodies-chained : (sections : List Section) (bodies : Bodies) → Stand sections bodies → All (λ one. StandInBranches one.parts) sections →
-    All (λ one. StandInBranches (body_parts (table bodies.stanzas.bodies.items) one.body)) bodies.built.items
+pub bodies-chained : (sections : List Section) (bodies : Bodies) → AreBodiesOf sections bodies → All (λ one. AreSectionParts one.parts) sections →
+    All (λ one. AreSectionParts (body_parts (table bodies.stanzas.bodies.items) one.body)) bodies.built.items
 bodies-chained sections bodies stand chained =
     let told = table bodies.stanzas.bodies.items in
-    let shown = recursion_from_All (λ (one : Shown). StandInBranches one.section.parts) (flat_map shown_in (with_imports_replaced sections)) (shown-chained sections chained) in
-    All-from_recursion (λ (one : Built). StandInBranches (body_parts told one.body)) bodies.built.items
-    (each-of-map (λ (one : Shown). StandInBranches one.section.parts) (built_component told) bodies.built.items
-    (subst (AllByRecursion (λ (one : Shown). StandInBranches one.section.parts)) (sym stand.shown) shown))
+    let shown = recursion_from_All (λ (one : Shown). AreSectionParts one.section.parts) (flat_map shown_in (with_imports_replaced sections)) (shown-chained sections chained) in
+    All-from_recursion (λ (one : Built). AreSectionParts (body_parts told one.body)) bodies.built.items
+    (each-of-map (λ (one : Shown). AreSectionParts one.section.parts) (built_component told) bodies.built.items
+    (subst (AllByRecursion (λ (one : Shown). AreSectionParts one.section.parts)) (sym stand.shown) shown))

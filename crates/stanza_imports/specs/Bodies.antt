@@ -82,5 +82,5 @@ abbrev pub placed_part : Placed → SectionPart
 placed_part placed = record placed.part.now { branches = placed.branches }
 
 -- the built components are those of these sections, with imports replaced
-pub record Stand (sections : List Section) (bodies : Bodies) : Type 0 where
+pub record AreBodiesOf (sections : List Section) (bodies : Bodies) : Type 0 where
   pub shown : map (built_component (table bodies.stanzas.bodies.items)) bodies.built.items ≡ flat_map shown_in (with_imports_replaced sections)

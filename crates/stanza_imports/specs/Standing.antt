@@ -41,7 +41,7 @@ abbrev pub IsMore : List Body → List Body → Type 0
 IsMore bodies all = (more : List Body) × (all ≡ bodies ++ more)
 
 -- a body expands to these parts
-pub record Means (stanzas : List Body) (body : Body) (said : List SectionPart) : Type 0 where
+pub record ExpandsTo (stanzas : List Body) (body : Body) (said : List SectionPart) : Type 0 where
   pub parts : body_parts (table stanzas) body ≡ said
   pub told : body.summary ≡ summary said
   pub within : is_within (length stanzas) body ≡ true
@@ -58,17 +58,17 @@ pub record Knows (known : Stanzas) (stanzas : tables.Stanzas) : Type 0 where
 -- adding a stanza of this name and body extends the known ones by it
 abbrev pub Adds : List ℕ → Body → tables.Stanzas → tables.Stanzas → Type 0
 Adds name body old new =
-    (known : Stanzas) (parts : List SectionPart) → Knows known old → Means old.bodies.items body parts → Knows (known ++ (name, parts) ∷ []) new
+    (known : Stanzas) (parts : List SectionPart) → Knows known old → ExpandsTo old.bodies.items body parts → Knows (known ++ (name, parts) ∷ []) new
 
 -- the body expands to these parts with imports replaced
 abbrev pub IsBodyOf : tables.Stanzas → List SectionPart → Body → Type 0
-IsBodyOf stanzas parts body = (known : Stanzas) → Knows known stanzas → Means stanzas.bodies.items body (all_replaced known parts)
+IsBodyOf stanzas parts body = (known : Stanzas) → Knows known stanzas → ExpandsTo stanzas.bodies.items body (all_replaced known parts)
 
 -- the new body expands to the parts of the old one, followed by more
 abbrev pub Grows : tables.Stanzas → Body → Body → (Stanzas → List SectionPart) → Type 0
 Grows stanzas old new more =
-    (known : Stanzas) (said : List SectionPart) → Knows known stanzas → Means stanzas.bodies.items old said
-    → Means stanzas.bodies.items new (said ++ more known)
+    (known : Stanzas) (said : List SectionPart) → Knows known stanzas → ExpandsTo stanzas.bodies.items old said
+    → ExpandsTo stanzas.bodies.items new (said ++ more known)
 
 -- the line of the first bad `visibility` of a built component, if it is a library with a name of its own
 abbrev pub bad_in : Built → Option ℕ
@@ -80,7 +80,7 @@ all_behind stanzas [] = stanzas
 all_behind stanzas (section ∷ sections) = all_behind (stanzas_behind stanzas section) sections
 
 -- the stanzas and components built of the first sections of a file
-pub record Standing (sections : List Section) (bodies : Bodies) : Type 0 where
+pub record AreBodiesSoFar (sections : List Section) (bodies : Bodies) : Type 0 where
   pub knows : Knows (all_behind [] sections) bodies.stanzas
   pub within : list_all (λ built. is_within (length bodies.stanzas.bodies.items) built.body) bodies.built.items ≡ true
   pub shown : map (built_component (table bodies.stanzas.bodies.items)) bodies.built.items ≡ flat_map shown_in (sections_from [] sections)

@@ -6,9 +6,9 @@ ghost use Rattle.section_syntax.specs.declared.part.Section.{Section};
 ghost use Rattle.stanza_imports.specs.Lines.{first_line, lesser};
 ghost use Rattle.stanza_imports.specs.Imports.{under, with_imports_replaced};
 ghost use Rattle.stanza_imports.specs.KnownStanzas.{all_replaced, imported};
-ghost use Rattle.stanza_imports.specs.Standing.{Adds, Grows, IsBodyOf, IsMore, Knows, Means, Standing, joined, summary_under, bad_in};
+ghost use Rattle.stanza_imports.specs.Standing.{Adds, Grows, IsBodyOf, IsMore, Knows, ExpandsTo, AreBodiesSoFar, joined, summary_under, bad_in};
 ghost use Rattle.common_laws.specs.Small.{capped};
-ghost use Rattle.stanza_imports.specs.Bodies.{body_parts, table, weight, summary, total_weight, placed_part, Stand};
+ghost use Rattle.stanza_imports.specs.Bodies.{body_parts, table, weight, summary, total_weight, placed_part, AreBodiesOf};
 ghost use Rattle.stanza_imports.specs.Walk.{left_parts, frames_parts, costs, left_cost, frames_cost};
 ghost use Rattle.stanza_imports.specs.Parts.{is_named_library, bad_visibility, bad_visibilities};
 
@@ -294,8 +294,8 @@ fn enter<'b, 'a>(
 
 impl<'a> Body<'a> {
     fn push_part(&mut self, part: &'a SectionPart) -> Result<(), NoMemory>
-        ensures { OnOk result ((stanzas : List Body) (said : List SectionPart) → Means stanzas self.old said
-            → Means stanzas self.new (said ++ part.now ∷ [])) }
+        ensures { OnOk result ((stanzas : List Body) (said : List SectionPart) → ExpandsTo stanzas self.old said
+            → ExpandsTo stanzas self.new (said ++ part.now ∷ [])) }
     {
         self.steps.push(Step::Part(part))?;
         self.summary = self.summary.joined(Summary::of(part));
@@ -308,9 +308,9 @@ impl<'a> Body<'a> {
         imported: &Body<'a>,
         branches: &'a List<Guard>,
     ) -> Result<(), NoMemory>
-        ensures { OnOk result ((stanzas : List Body) (said parts : List SectionPart) → Means stanzas self.old said → stanza < length stanzas
+        ensures { OnOk result ((stanzas : List Body) (said parts : List SectionPart) → ExpandsTo stanzas self.old said → stanza < length stanzas
             → get_or (table stanzas) stanza [] ≡ parts → imported.now.summary ≡ summary parts
-            → Means stanzas self.new (said ++ map (under branches.now) parts)) }
+            → ExpandsTo stanzas self.new (said ++ map (under branches.now) parts)) }
     {
         self.steps.push(Step::Import { stanza, branches })?;
         let imported = imported.summary.under(branches.as_slice());
@@ -386,7 +386,7 @@ pub struct Bodies<'a> {
 
 /// The bodies of the components of a file.
 pub fn bodies_of<'a>(alloc: Global, sections: &'a [Section]) -> Result<Bodies<'a>, NoMemory>
-    ensures { IfOk result (Stand sections.now) }
+    ensures { IfOk result (AreBodiesOf sections.now) }
 {
     let mut bodies = Bodies {
         stanzas: Stanzas::new(alloc),
@@ -399,8 +399,8 @@ pub fn bodies_of<'a>(alloc: Global, sections: &'a [Section]) -> Result<Bodies<'a
 }
 
 fn add<'a>(alloc: Global, section: &'a Section, bodies: &mut Bodies<'a>) -> Result<(), NoMemory>
-    ensures { OnOk result ((sections : List Section) → Standing sections bodies.old
-        → Standing (sections ++ section.now ∷ []) bodies.new) }
+    ensures { OnOk result ((sections : List Section) → AreBodiesSoFar sections bodies.old
+        → AreBodiesSoFar (sections ++ section.now ∷ []) bodies.new) }
 {
     let parts = section.parts.as_slice();
     match section.kind {
@@ -424,7 +424,7 @@ fn add<'a>(alloc: Global, section: &'a Section, bodies: &mut Bodies<'a>) -> Resu
 
 /// The line of the first bad visibility of a library with a name of its own.
 pub fn first_bad_visibility(bodies: &Bodies) -> Option<u32>
-    ensures { (sections : List Section) → Stand sections bodies.now
+    ensures { (sections : List Section) → AreBodiesOf sections bodies.now
         → result ≡ first_line (flat_map bad_visibilities (with_imports_replaced sections)) }
 {
     let mut first = None;
@@ -455,7 +455,7 @@ impl<'a> Built<'a> {
 
 /// The number of parts and dependencies of all components, at most 2^64 - 1.
 pub fn total_weight(bodies: &Bodies) -> u64
-    ensures { (sections : List Section) → Stand sections bodies.now → result ≡ total_weight (with_imports_replaced sections) }
+    ensures { (sections : List Section) → AreBodiesOf sections bodies.now → result ≡ total_weight (with_imports_replaced sections) }
 {
     let mut weight: u64 = 0;
     for one in bodies.built.as_slice() {

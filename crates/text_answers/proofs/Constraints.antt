@@ -18,9 +18,9 @@ use Rattle.text_grammar.proofs.Spaces.{Begun, begun}
 use Rattle.version_range.specs.Grammar.{Stands}
 use Rattle.entry_text.specs.Entries.{Each}
 use Rattle.entry_text.specs.Words.{run, behind, is_name_byte, name_of, behind_name, words}
-use Rattle.constraint_text.specs.Faults.{BadAsNone}
+use Rattle.constraint_text.specs.Faults.{IsBadConstraint}
 use Rattle.constraint_text.specs.Named.{NamedEntry}
-use Rattle.constraint_text.specs.Constraints.{Target, scope_of, asked_alone, Flag, on, off, Asked, alone, flags, Asks, ConstraintEntry}
+use Rattle.constraint_text.specs.Constraints.{Target, scope_of, asked_alone, Flag, on, off, Required, alone, flags, Requires, ConstraintEntry}
 use Rattle.constraint_text.proofs.OneConstraint.{bad_target, bad_what, never_asks}
 use Rattle.text_answers.specs.Answered.{Answered}
 use Rattle.text_answers.proofs.Decided.{Decided, front_decided}
@@ -107,24 +107,24 @@ module _ (word : List ℕ) where
   flag_decided : Decided (Flag word)
   flag_decided = flag_by (begun 43 word) (begun 45 word)
 
-asked_decided : (parts : List (List ℕ)) → Decided (Asked parts)
+asked_decided : (parts : List (List ℕ)) → Decided (Required parts)
 asked_decided parts = by (asked_alone parts) refl (each_decided Flag flag_decided parts)
   where
-    never_asked : asked_alone parts ≡ None → ((set : List FlagSet) → Each Flag parts set → ⊥) → (w : What) → Asked parts w → ⊥
+    never_asked : asked_alone parts ≡ None → ((set : List FlagSet) → Each Flag parts set → ⊥) → (w : What) → Required parts w → ⊥
     never_asked q never w (alone e) = some_none w (asked_alone parts) e q
     never_asked q never w (flags set each is) = never set each
 
-    by : (o : Option What) → asked_alone parts ≡ o → Decided (Each Flag parts) → Decided (Asked parts)
+    by : (o : Option What) → asked_alone parts ≡ o → Decided (Each Flag parts) → Decided (Required parts)
     by (Some w) q set = inl (w, alone q)
     by None q (inl set) = inl (what.Flags set.0, flags set.0 set.1 refl)
     by None q (inr never) = inr (never_asked q never)
 
-asks_decided : (text : List ℕ) → Decided (Asks text)
+asks_decided : (text : List ℕ) → Decided (Requires text)
 asks_decided text = by (range_decided text) (asked_decided (words text))
   where
-    by : Decided (Stands V3_0 64 text) → Decided (Asked (words text)) → Decided (Asks text)
-    by (inl found) asked = inl (what.Range found.0, Asks.range found.0 found.1 refl)
-    by (inr none) (inl asked) = inl (asked.0, Asks.other none asked.1)
+    by : Decided (Stands V3_0 64 text) → Decided (Required (words text)) → Decided (Requires text)
+    by (inl found) asked = inl (what.Range found.0, Requires.range found.0 found.1 refl)
+    by (inr none) (inl asked) = inl (asked.0, Requires.other none asked.1)
     by (inr none) (inr never) = inr (never_asks text none never)
 
 -- ---- a constraint
@@ -147,14 +147,14 @@ module _ (text : List ℕ) (scope : Scope) («package» rest : List ℕ) (target
       let same = asked_of text x.scope x.«package» entry.rest entry.target ∙ sym (asked_of text scope «package» rest target) in
       true≢false (sym entry.form ∙ ap is_package_name same ∙ h)
 
-  of_target : (t : Bool) → is_package_name «package» ≡ t → Decided (Asks rest) → Answered (ConstraintEntry text) (BadAsNone ConstraintEntry text)
+  of_target : (t : Bool) → is_package_name «package» ≡ t → Decided (Requires rest) → Answered (ConstraintEntry text) (IsBadConstraint ConstraintEntry text)
   of_target false h asked = inr (BadConstraint, record { is = refl; stands_for_none = no_name h })
   of_target true h (inl asked) = inl (record { scope = scope; «package» = «package»; what = asked.0 }, record { rest = rest; target = target; form = h; asks = asked.1 })
   of_target true h (inr never) = inr (BadConstraint, bad_what text scope «package» rest target BadConstraint (record { is = refl; stands_for_none = never }))
 
-pub some_constraint : (text : List ℕ) → Answered (ConstraintEntry text) (BadAsNone ConstraintEntry text)
+pub some_constraint : (text : List ℕ) → Answered (ConstraintEntry text) (IsBadConstraint ConstraintEntry text)
 some_constraint text = by (target_decided text)
   where
-    by : HasTarget text → Answered (ConstraintEntry text) (BadAsNone ConstraintEntry text)
+    by : HasTarget text → Answered (ConstraintEntry text) (IsBadConstraint ConstraintEntry text)
     by (inl found) = of_target text found.0 found.1 found.2 found.3 (is_package_name found.1) refl (asks_decided found.2)
     by (inr never) = inr (BadConstraint, bad_target text BadConstraint (refl, never))

@@ -6,14 +6,14 @@ use Rattle.std.proofs.lemmas.Slice.Eq.{bytes_eq-Decides}
 use Rattle.plan_types.specs.Bytes.{same_text}
 use Rattle.plan_types.specs.declared.refusal.Cause.TheVariants.{BadConstraint}
 use Rattle.common_laws.specs.Small.{head_same, tail_same}
-use Rattle.constraint_text.specs.Faults.{BadAsNone}
+use Rattle.constraint_text.specs.Faults.{IsBadConstraint}
 use Rattle.text_answers.specs.Answered.{Answered}
 
 abbrev pub Decided : {A : Type 0} → (A → Type 0) → Type 0
 Decided {A} P = ((x : A) × P x) ⊎ ((x : A) → P x → ⊥)
 
 -- a part that denotes nothing has the fault `BadConstraint`
-pub bad_as_none : {A : Type 0} (Part : List ℕ → A → Type 0) (part : List ℕ) → Decided (Part part) → Answered (Part part) (BadAsNone Part part)
+pub bad_as_none : {A : Type 0} (Part : List ℕ → A → Type 0) (part : List ℕ) → Decided (Part part) → Answered (Part part) (IsBadConstraint Part part)
 bad_as_none Part part (inl found) = inl found
 bad_as_none Part part (inr never) = inr (BadConstraint, record { is = refl; stands_for_none = never })
 

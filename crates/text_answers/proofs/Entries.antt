@@ -3,7 +3,7 @@ use Rattle.std.proofs.Common.{◌≡◌, inl, inr, ℕ, Bool, true, false, not, 
 use Rattle.std.specs.Prelude.{◌==◌}
 use Rattle.std.proofs.lemmas.Bool.{and_parts, eqb-true}
 use Rattle.plan_types.specs.declared.refusal.Cause.{Cause}
-use Rattle.entry_text.specs.Entries.{left_open, commas_inside, Pieces, last, joined, entries, Each, none, more, First, here, later, Lists, Faulty}
+use Rattle.entry_text.specs.Entries.{left_open, commas_inside, Pieces, last, joined, entries, Each, none, more, First, here, later, HasEntries, HasFirstFault}
 use Rattle.entry_text.proofs.Cuts.{inside_push}
 use Rattle.text_answers.specs.Answered.{Answered}
 use Rattle.text_answers.proofs.Decided.{Decided}
@@ -44,7 +44,7 @@ module _ {A : Type 0} (Part : List ℕ → A → Type 0) where
       by (inl found) (inr fault) = inr (fault.0, later found.1 fault.1)
 
   pub some_reading : (Fault : List ℕ → Cause → Type 0) → ((part : List ℕ) → Answered (Part part) (Fault part))
-      → (text : List ℕ) → Answered (Lists Part text) (Faulty Part Fault text)
+      → (text : List ℕ) → Answered (HasEntries Part text) (HasFirstFault Part Fault text)
   some_reading Fault row text =
       let pieces = some_pieces text in
       elim (some_each Fault row (entries pieces.0)) [

@@ -13,7 +13,7 @@ use Rattle.common_laws.specs.Small.{tail_same}
 use Rattle.text_grammar.proofs.Spaces.{Begun, begun}
 use Rattle.version_range.specs.Version.{IsVersionOf}
 use Rattle.entry_text.specs.Words.{run, behind, words}
-use Rattle.constraint_text.specs.Faults.{BadAsNone}
+use Rattle.constraint_text.specs.Faults.{IsBadConstraint}
 use Rattle.constraint_text.specs.Relaxes.{relaxing_word, is_no_colon, is_no_dash, Release, Owner, Dependency, RelaxedBy, RelaxEntry, Relaxes, RelaxFault}
 use Rattle.constraint_text.proofs.OneRelax.{bad_release, never_all}
 use Rattle.text_answers.specs.Answered.{Answered}
@@ -147,7 +147,7 @@ entry_decided text = by (words text) refl
 -- each text denotes relaxings, without the entries that relax nothing, or has a fault
 pub some_relaxes : (text : List ℕ) → Answered (Relaxes text) (RelaxFault text)
 some_relaxes text =
-    elim (some_reading RelaxEntry (BadAsNone RelaxEntry) (λ part. bad_as_none RelaxEntry part (entry_decided part)) text) [
+    elim (some_reading RelaxEntry (IsBadConstraint RelaxEntry) (λ part. bad_as_none RelaxEntry part (entry_decided part)) text) [
       | inl found ↦ inl (filter_map (λ relax. relax) found.0, record { each = found.0; entries = found.1; is = refl })
       | inr fault ↦ inr fault
     ]

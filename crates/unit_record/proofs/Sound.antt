@@ -13,13 +13,13 @@ use Rattle.plan_types.specs.declared.index.UnitRecord.{UnitRecord}
 use Rattle.plan_types.specs.declared.version.Version.{Version}
 use Rattle.version_range.specs.Version.{is_version, IsVersionOf}
 use Rattle.unit_record.specs.Fields.{Field, FieldSays, Say, TopField, field_word, top_fields}
-use Rattle.unit_record.specs.Record.{IsRecord, complete, name_of, outcome, sound, contents, version_of}
+use Rattle.unit_record.specs.Record.{IsRecord, complete, name_of, outcome, unless_bad, contents, version_of}
 use Rattle.unit_record.specs.declared.field.FieldWord.{FieldWord}
 use Rattle.unit_record.specs.declared.field.FieldWord.TheVariants as fields
 use Rattle.unit_record.specs.declared.field.Said.{Said}
 use Rattle.unit_record.specs.declared.contents.Contents.{Contents}
 use Rattle.std.specs.Option.{option_or}
-use Rattle.text_grammar.specs.Last.{last_said}
+use Rattle.text_grammar.specs.Last.{last_given}
 
 abbrev pub IsName : List ℕ → Type 0
 IsName name = is_package_name name ≡ true
@@ -56,18 +56,18 @@ if_else P None b p q = q
 if_else P (Some a) b p q = p
 
 module _ {A : Type 0} (P : A → Type 0) (of : Said → Option A) (each : (word : FieldWord) (text : List ℕ) (s : Said) → FieldSays word text s → IfSome (of s) P) where
-  last_if : (tops : List TopField) (all : List Field) → Say tops all → IfSome (last_said (λ (field : Field). of field.said) all) P
+  last_if : (tops : List TopField) (all : List Field) → Say tops all → IfSome (last_given (λ (field : Field). of field.said) all) P
   last_if [] [] h = tt
   last_if [] (x ∷ xs) h = absurd h
   last_if (t ∷ ts) [] h = absurd h
-  last_if (t ∷ ts) (x ∷ xs) h = if_else P (last_said (λ (field : Field). of field.said) xs) (of x.said) (last_if ts xs h.2) (each (field_word t.name) t.text x.said h.1)
+  last_if (t ∷ ts) (x ∷ xs) h = if_else P (last_given (λ (field : Field). of field.said) xs) (of x.said) (last_if ts xs h.2) (each (field_word t.name) t.text x.said h.1)
 
 module _ (P : UnitRecord → Type 0) where
   abbrev IfRecord : Result (Option UnitRecord) ℕ → Type 0
   IfRecord (Ok found) = IfSome found P
   IfRecord (Err line) = Unit {0}
 
-  sound_if : (bad : Option ℕ) (r : Result (Option UnitRecord) ℕ) → IfRecord r → IfRecord (sound bad r)
+  sound_if : (bad : Option ℕ) (r : Result (Option UnitRecord) ℕ) → IfRecord r → IfRecord (unless_bad bad r)
   sound_if None r h = h
   sound_if (Some line) r h = tt
 

@@ -5,7 +5,7 @@ use Rattle.plan_types.specs.declared.element.Element.{Element}
 use Rattle.plan_types.specs.declared.index.UnitRecord.{UnitRecord}
 use Rattle.plan_types.specs.declared.refusal.Cause.{Cause}
 use Rattle.plan_types.specs.declared.version.Version.{Version}
-use Rattle.text_grammar.specs.Last.{last_said}
+use Rattle.text_grammar.specs.Last.{last_given}
 use Rattle.cabal_lexer.specs.Fault.{IsTree, IsFault}
 use Rattle.unit_record.specs.Fields.{Field, Say, top_fields}
 use Rattle.unit_record.specs.declared.field.Said.{Said}
@@ -82,9 +82,9 @@ contents fields =
     record {
       left_out = list_any (λ field. is_lib_name field.said) fields;
       bad = first_bad fields;
-      name = last_said (λ field. name_of field.said) fields;
-      version = last_said (λ field. version_of field.said) fields;
-      id = last_said (λ field. id_of field.said) fields;
+      name = last_given (λ field. name_of field.said) fields;
+      version = last_given (λ field. version_of field.said) fields;
+      id = last_given (λ field. id_of field.said) fields;
       depends = flat_map (λ field. depends_of field.said) fields;
     }
 
@@ -100,13 +100,13 @@ complete (Some name) None id depends = Err 0
 complete None version id depends = Err 0
 
 -- the outcome if no value is bad, else a fault at the line of the bad one
-abbrev pub sound : Option ℕ → Result (Option UnitRecord) ℕ → Result (Option UnitRecord) ℕ
-sound None found = found
-sound (Some line) found = Err line
+abbrev pub unless_bad : Option ℕ → Result (Option UnitRecord) ℕ → Result (Option UnitRecord) ℕ
+unless_bad None found = found
+unless_bad (Some line) found = Err line
 
 -- the outcome of a record; that of a sublibrary is left out, whatever else it has
 abbrev pub outcome : Contents → Result (Option UnitRecord) ℕ
-outcome contents = if contents.left_out then Ok None else sound contents.bad (complete contents.name contents.version contents.id contents.depends)
+outcome contents = if contents.left_out then Ok None else unless_bad contents.bad (complete contents.name contents.version contents.id contents.depends)
 
 -- The outcome of the bytes: a record, none, or a fault at a line. If the layout has a fault, it is at that line.
 abbrev pub IsRecord : List ℕ → Result (Option UnitRecord) ℕ → Type 0

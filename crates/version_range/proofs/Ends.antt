@@ -12,7 +12,7 @@ use Rattle.std.proofs.lemmas.Bool.{true≢false, false≢true, and_parts, and_fr
 use Rattle.std.proofs.lemmas.Map.Lookups.{exact_bytes}
 use Rattle.plan_types.specs.declared.version.Version.{Version}
 use Rattle.plan_types.specs.Members.{order}
-use Rattle.version_range.specs.declared.merge.Joint.{Joint}
+use Rattle.version_range.specs.declared.merge.Connective.{Connective}
 use Rattle.version_range.specs.Cuts.{is_below, HasNumbers, inside, all_above, rises, are_ends, no_numbers, join, flip, not_same, pushed, Takes, IsStep}
 use Rattle.common_laws.specs.Small.{is-less}
 
@@ -113,7 +113,7 @@ before true v e ends xs k h p = ap (λ l. inside l v) k ∙ rw p (quiet v xs (ab
 before false v e ends xs k h p = ap (λ l. inside l v) k ∙ quiet v xs (above_down v e xs p h)
 
 -- The ends `more` continue the joined set as xs and ys continue the two sets, from the states a and b.
-abbrev pub Continues : Joint → Bool → Bool → List Version → List Version → List Version → Type 0
+abbrev pub Continues : Connective → Bool → Bool → List Version → List Version → List Version → Type 0
 Continues j a b xs ys more = (v : Version) → flip (join j a b) (inside more v) ≡ join j (flip a (inside xs v)) (flip b (inside ys v))
 
 flip_both : (a t x : Bool) → flip a (flip t x) ≡ flip (flip t a) x
@@ -136,7 +136,7 @@ flip_turned true false false ne = refl
 flip_turned false true m ne = refl
 flip_turned false false m ne = absurd (ne refl)
 
-module _ (j : Joint) (a b : Bool) (xs ys : List Version) (e : Version) (s t : Bool) (xs' ys' : List Version) (step : IsStep xs ys e s xs' t ys') (more : List Version) (goes_on : Continues j (flip s a) (flip t b) xs' ys' more) where
+module _ (j : Connective) (a b : Bool) (xs ys : List Version) (e : Version) (s t : Bool) (xs' ys' : List Version) (step : IsStep xs ys e s xs' t ys') (more : List Version) (goes_on : Continues j (flip s a) (flip t b) xs' ys' more) where
   abbrev was : Bool
   was = join j a b
 
@@ -234,12 +234,12 @@ not_same_false false false h = refl
 -- ---- the loop that merges
 
 -- the invariant of the merge
-pub record Merges (j : Joint) (xs ys out : List Version) (a b : Bool) (xs' ys' : List Version) : Type 0 where
+pub record Merges (j : Connective) (xs ys out : List Version) (a b : Bool) (xs' ys' : List Version) : Type 0 where
   pub first_rises : are_ends (out ++ xs') ≡ true
   pub second_rises : are_ends (out ++ ys') ≡ true
   pub follows : (more : List Version) → Continues j a b xs' ys' more → (v : Version) → inside (out ++ more) v ≡ join j (inside xs v) (inside ys v)
 
-pub merges_step : (j : Joint) (xs ys out : List Version) (a b : Bool) (xs' ys' : List Version) (e : Version) (s t : Bool) (xs'' ys'' : List Version) (w : Bool) (out' : List Version) → Merges j xs ys out a b xs' ys' → IsStep xs' ys' e s xs'' t ys'' → w ≡ not_same (join j a b) (join j (flip s a) (flip t b)) → out' ≡ pushed w out e → Merges j xs ys out' (flip s a) (flip t b) xs'' ys''
+pub merges_step : (j : Connective) (xs ys out : List Version) (a b : Bool) (xs' ys' : List Version) (e : Version) (s t : Bool) (xs'' ys'' : List Version) (w : Bool) (out' : List Version) → Merges j xs ys out a b xs' ys' → IsStep xs' ys' e s xs'' t ys'' → w ≡ not_same (join j a b) (join j (flip s a) (flip t b)) → out' ≡ pushed w out e → Merges j xs ys out' (flip s a) (flip t b) xs'' ys''
 merges_step j xs ys out a b xs' ys' e s t xs'' ys'' w out' m step wanted pushed_is = by w wanted (out') pushed_is
   where
     r : (rises ((no_numbers ∷ out) ++ e ∷ xs'') ≡ true) × (rises ((no_numbers ∷ out) ++ e ∷ ys'') ≡ true)
@@ -261,7 +261,7 @@ rises_tail : (out xs : List Version) → rises (out ++ xs) ≡ true → rises xs
 rises_tail [] xs h = h
 rises_tail (o ∷ out) xs h = rises_tail out xs (and_parts (all_above o (out ++ xs)) (rises (out ++ xs)) h).1
 
-module _ {j : Joint} {xs ys out : List Version} {a b : Bool} {xs' ys' : List Version} (m : Merges j xs ys out a b xs' ys') where
+module _ {j : Connective} {xs ys out : List Version} {a b : Bool} {xs' ys' : List Version} (m : Merges j xs ys out a b xs' ys') where
   pub first_left : rises xs' ≡ true
   first_left = rises_tail (no_numbers ∷ out) xs' m.first_rises
 
@@ -405,7 +405,7 @@ empty_when (e ∷ es) h =
     first_inside e es r = rw (not_itself e) (ap not (quiet e es (and_parts (all_above e es) (rises es) r).0))
 
 -- the same, for the variables of the code
-pub merges_turn : (j : Joint) (xs ys out : List Version) (a b : Bool) (xs' ys' : List Version) (e : Version) (s t : Bool) (xs'' ys'' : List Version) (out' : List Version) (a' b' w w' d : Bool) → Merges j xs ys out a b xs' ys' → IsStep xs' ys' e s xs'' t ys'' → w ≡ join j a b → a' ≡ flip s a → b' ≡ flip t b → w' ≡ join j a' b' → d ≡ flip w w' → out' ≡ pushed d out e → Merges j xs ys out' a' b' xs'' ys''
+pub merges_turn : (j : Connective) (xs ys out : List Version) (a b : Bool) (xs' ys' : List Version) (e : Version) (s t : Bool) (xs'' ys'' : List Version) (out' : List Version) (a' b' w w' d : Bool) → Merges j xs ys out a b xs' ys' → IsStep xs' ys' e s xs'' t ys'' → w ≡ join j a b → a' ≡ flip s a → b' ≡ flip t b → w' ≡ join j a' b' → d ≡ flip w w' → out' ≡ pushed d out e → Merges j xs ys out' a' b' xs'' ys''
 merges_turn j xs ys out a b xs' ys' e s t xs'' ys'' out' a' b' w w' d m step p q r u v o =
     subst (λ z. Merges j xs ys out' z b' xs'' ys'') (sym q)
     (subst (λ z. Merges j xs ys out' (flip s a) z xs'' ys'') (sym r)

@@ -11,7 +11,7 @@ use Rattle.std.proofs.lemmas.Cmp.{nat_cmp_total, tied_itself}
 use Rattle.plan_types.specs.declared.version.Version.{Version}
 use Rattle.plan_types.specs.Members.{order, major_end}
 use Rattle.version_range.specs.Version.{IsVersion, IsNumber}
-use Rattle.version_range.specs.Cuts.{is_below, HasNumbers, inside, raised}
+use Rattle.version_range.specs.Cuts.{is_below, HasNumbers, inside, prefix_end}
 use Rattle.version_range.proofs.Ends.{below_through, not_below_through}
 use Rattle.version_range.proofs.Relaxing.{least}
 
@@ -75,20 +75,20 @@ then_prefix Greater p q r s e = refl
 same_number : (n a : ℕ) → is_eq (nat_cmp n a) ≡ nat_eq a n
 same_number n a = grind (arith, nat_tests)
 
-pub prefix_ends : (vs xs : List ℕ) → 0 < length xs → not (is_lt (order vs xs)) && is_lt (order vs (raised xs)) ≡ starts_with nat_eq vs xs
+pub prefix_ends : (vs xs : List ℕ) → 0 < length xs → not (is_lt (order vs xs)) && is_lt (order vs (prefix_end xs)) ≡ starts_with nat_eq vs xs
 prefix_ends vs [] some = absurd (omega arith)
 prefix_ends [] (x ∷ []) some = refl
 prefix_ends [] (x ∷ y ∷ xs) some = refl
 prefix_ends (v ∷ []) (x ∷ []) some = grind (arith, nat_tests)
 prefix_ends (v ∷ w ∷ vs) (x ∷ []) some = grind (arith, nat_tests)
 prefix_ends (v ∷ vs) (x ∷ y ∷ xs) some =
-    then_prefix (nat_cmp v x) (order vs (y ∷ xs)) (order vs (raised (y ∷ xs))) Equal (starts_with nat_eq vs (y ∷ xs)) (prefix_ends vs (y ∷ xs) (omega arith))
+    then_prefix (nat_cmp v x) (order vs (y ∷ xs)) (order vs (prefix_end (y ∷ xs))) Equal (starts_with nat_eq vs (y ∷ xs)) (prefix_ends vs (y ∷ xs) (omega arith))
     ∙ ap (λ t. t && starts_with nat_eq vs (y ∷ xs)) (same_number v x)
 
-pub below_raised : (xs : List ℕ) → 0 < length xs → is_lt (order xs (raised xs)) ≡ true
+pub below_raised : (xs : List ℕ) → 0 < length xs → is_lt (order xs (prefix_end xs)) ≡ true
 below_raised [] some = absurd (omega arith)
 below_raised (x ∷ []) some = grind (arith, nat_tests)
-below_raised (x ∷ y ∷ xs) some = ap is_lt (then_same x (order (y ∷ xs) (raised (y ∷ xs)))) ∙ below_raised (y ∷ xs) (omega arith)
+below_raised (x ∷ y ∷ xs) some = ap is_lt (then_same x (order (y ∷ xs) (prefix_end (y ∷ xs)))) ∙ below_raised (y ∷ xs) (omega arith)
 
 pub below_major : (xs : List ℕ) → 0 < length xs → is_lt (order xs (major_end xs)) ≡ true
 below_major [] some = absurd (omega arith)
@@ -96,7 +96,7 @@ below_major (x ∷ []) some = grind (arith, nat_tests)
 below_major (x ∷ y ∷ []) some = grind (arith, nat_tests)
 below_major (x ∷ y ∷ z ∷ xs) some = grind (arith, nat_tests)
 
-pub raised_last : (front : List ℕ) (last : ℕ) → raised (front ++ last ∷ []) ≡ front ++ (last + 1) ∷ []
+pub raised_last : (front : List ℕ) (last : ℕ) → prefix_end (front ++ last ∷ []) ≡ front ++ (last + 1) ∷ []
 raised_last [] last = refl
 raised_last (x ∷ []) last = refl
 raised_last (x ∷ y ∷ front) last = ap (λ l. x ∷ l) (raised_last (y ∷ front) last)
@@ -118,7 +118,7 @@ module _ (x lo hi v : Version) where
   pub equal_is : lo ≡ x → hi.parts ≡ x.parts ++ 0 ∷ [] → not (is_below v lo) && is_below v hi ≡ is_eq (order v.parts x.parts)
   equal_is p q = (λ i. not (at_copy p i) && at_next q i) ∙ both_eq (order v.parts x.parts)
 
-  pub prefix_is : 0 < length x.parts → lo ≡ x → hi.parts ≡ raised x.parts → not (is_below v lo) && is_below v hi ≡ starts_with nat_eq v.parts x.parts
+  pub prefix_is : 0 < length x.parts → lo ≡ x → hi.parts ≡ prefix_end x.parts → not (is_below v lo) && is_below v hi ≡ starts_with nat_eq v.parts x.parts
   prefix_is some p q = (λ i. not (at_copy p i) && is_lt (order v.parts (q i))) ∙ prefix_ends v.parts x.parts some
 
   pub at_least_is : lo ≡ x → not (is_below v lo) ≡ is_ge (order v.parts x.parts)
@@ -145,7 +145,7 @@ any_is lo v p n = ap not (least lo v p n)
 pub rises_equal : (x lo hi : Version) → lo ≡ x → hi.parts ≡ x.parts ++ 0 ∷ [] → is_below lo hi ≡ true
 rises_equal x lo hi p q = at_next x lo hi lo q ∙ ap (λ l. is_le (order l.parts x.parts)) p ∙ ap is_le (itself x.parts)
 
-pub rises_prefix : (x lo hi : Version) → 0 < length x.parts → lo ≡ x → hi.parts ≡ raised x.parts → is_below lo hi ≡ true
+pub rises_prefix : (x lo hi : Version) → 0 < length x.parts → lo ≡ x → hi.parts ≡ prefix_end x.parts → is_below lo hi ≡ true
 rises_prefix x lo hi some p q = (λ i. is_lt (order (ap (λ l. l.parts) p i) (q i))) ∙ below_raised x.parts some
 
 pub rises_major : (x lo hi : Version) → 0 < length x.parts → lo ≡ x → hi.parts ≡ major_end x.parts → is_below lo hi ≡ true

@@ -2,20 +2,20 @@
 use Rattle.std.proofs.Common.{◌≡◌, Bool, true, false, ◌&&◌, ◌||◌, List, [], ◌∷◌, ◌++◌, ◌≤◌, arith, refl, sym, ap, ◌∙◌}
 use Rattle.std.proofs.Math.Bool.{and_assoc, or_assoc}
 use Rattle.plan_types.specs.declared.version.Version.{Version}
-use Rattle.version_range.specs.declared.merge.Joint.{Joint}
-use Rattle.version_range.specs.declared.merge.Joint.TheVariants.{Both, Either}
+use Rattle.version_range.specs.declared.merge.Connective.{Connective}
+use Rattle.version_range.specs.declared.merge.Connective.TheVariants.{Both, Either}
 use Rattle.plan_types.specs.declared.range.Range.{Range, size-Range}
 use Rattle.plan_types.specs.Members.{members}
 use Rattle.version_range.specs.Version.{has_versions}
 use Rattle.version_range.specs.Cuts.{HasNumbers, inside, join, joined, IsSplit}
 
-pub joined_append : (j : Joint) (xs ys : List (List Version)) (v : Version) → joined j (xs ++ ys) v ≡ join j (joined j xs v) (joined j ys v)
+pub joined_append : (j : Connective) (xs ys : List (List Version)) (v : Version) → joined j (xs ++ ys) v ≡ join j (joined j xs v) (joined j ys v)
 joined_append Both [] ys v = refl
 joined_append Either [] ys v = refl
 joined_append Both (x ∷ xs) ys v = ap (λ t. inside x v && t) (joined_append Both xs ys v) ∙ sym (and_assoc (inside x v) (joined Both xs v) (joined Both ys v))
 joined_append Either (x ∷ xs) ys v = ap (λ t. inside x v || t) (joined_append Either xs ys v) ∙ sym (or_assoc (inside x v) (joined Either xs v) (joined Either ys v))
 
-pub joined_one : (j : Joint) (x : List Version) (v : Version) → joined j (x ∷ []) v ≡ inside x v
+pub joined_one : (j : Connective) (x : List Version) (v : Version) → joined j (x ∷ []) v ≡ inside x v
 joined_one Both x v = by (inside x v)
   where
     by : (t : Bool) → t && true ≡ t
@@ -27,11 +27,11 @@ joined_one Either x v = by (inside x v)
     by true = refl
     by false = refl
 
-pub joined_push : (j : Joint) (xs : List (List Version)) (y : List Version) (v : Version) → joined j (xs ++ y ∷ []) v ≡ join j (joined j xs v) (inside y v)
+pub joined_push : (j : Connective) (xs : List (List Version)) (y : List Version) (v : Version) → joined j (xs ++ y ∷ []) v ≡ join j (joined j xs v) (inside y v)
 joined_push j xs y v = joined_append j xs (y ∷ []) v ∙ ap (join j (joined j xs v)) (joined_one j y v)
 
 -- an operand moves from the rest to the taken ones
-pub join_over : (j : Joint) (l r t : Bool) → join j l (join j t r) ≡ join j (join j l r) t
+pub join_over : (j : Connective) (l r t : Bool) → join j l (join j t r) ≡ join j (join j l r) t
 join_over Both true true true = refl
 join_over Both true true false = refl
 join_over Both true false true = refl
@@ -43,7 +43,7 @@ join_over Either false true false = refl
 join_over Either false false true = refl
 join_over Either false false false = refl
 
-pub join_back : (j : Joint) (t r : Bool) → join j t r ≡ join j r t
+pub join_back : (j : Connective) (t r : Bool) → join j t r ≡ join j r t
 join_back Both true true = refl
 join_back Both true false = refl
 join_back Both false true = refl
@@ -54,7 +54,7 @@ join_back Either false true = refl
 join_back Either false false = refl
 
 -- the first two, merged, move to the end
-pub joined_behind : (j : Joint) (x y merged : List Version) (rest : List (List Version)) (v : Version) → inside merged v ≡ join j (inside x v) (inside y v) → joined j (rest ++ merged ∷ []) v ≡ joined j (x ∷ y ∷ rest) v
+pub joined_behind : (j : Connective) (x y merged : List Version) (rest : List (List Version)) (v : Version) → inside merged v ≡ join j (inside x v) (inside y v) → joined j (rest ++ merged ∷ []) v ≡ joined j (x ∷ y ∷ rest) v
 joined_behind j x y merged rest v h =
     joined_push j rest merged v
     ∙ ap (join j (joined j rest v)) h
@@ -63,12 +63,12 @@ joined_behind j x y merged rest v h =
     ∙ sym (joined_append j (x ∷ y ∷ []) rest v)
 
 -- Some operands are taken from the right end of a chain, and a range is left.
-pub record Takes_over (j : Joint) (left right : Range) (operands : List (List Version)) (rest : Range) : Type 0 where
+pub record Takes_over (j : Connective) (left right : Range) (operands : List (List Version)) (rest : Range) : Type 0 where
   pub members_are : (v : Version) → HasNumbers v → join j (members rest v) (joined j operands v) ≡ join j (members left v) (members right v)
   pub versions_are : has_versions rest ≡ true
   pub no_larger : size-Range rest ≤ size-Range left
 
-pub takes_next : (j : Joint) (left right : Range) (operands operands' : List (List Version)) (rest l r : Range) (cuts : List Version) → Takes_over j left right operands rest → IsSplit j rest l r → operands' ≡ operands ++ cuts ∷ [] → ((v : Version) → HasNumbers v → inside cuts v ≡ members r v) → Takes_over j left right operands' l
+pub takes_next : (j : Connective) (left right : Range) (operands operands' : List (List Version)) (rest l r : Range) (cuts : List Version) → Takes_over j left right operands rest → IsSplit j rest l r → operands' ≡ operands ++ cuts ∷ [] → ((v : Version) → HasNumbers v → inside cuts v ≡ members r v) → Takes_over j left right operands' l
 takes_next j left right operands operands' rest l r cuts t s e are = record {
   members_are = λ v n.
       ap (λ o. join j (members l v) (joined j o v)) e
@@ -80,7 +80,7 @@ takes_next j left right operands operands' rest l r cuts t s e are = record {
   no_larger = omega (arith, s.left_smaller, t.no_larger);
 }
 
-pub takes_last : (j : Joint) (left right : Range) (operands operands' : List (List Version)) (rest : Range) (cuts : List Version) → Takes_over j left right operands rest → operands' ≡ operands ++ cuts ∷ [] → ((v : Version) → HasNumbers v → inside cuts v ≡ members rest v) → (v : Version) → HasNumbers v → joined j operands' v ≡ join j (members left v) (members right v)
+pub takes_last : (j : Connective) (left right : Range) (operands operands' : List (List Version)) (rest : Range) (cuts : List Version) → Takes_over j left right operands rest → operands' ≡ operands ++ cuts ∷ [] → ((v : Version) → HasNumbers v → inside cuts v ≡ members rest v) → (v : Version) → HasNumbers v → joined j operands' v ≡ join j (members left v) (members right v)
 takes_last j left right operands operands' rest cuts t e are v n =
     ap (λ o. joined j o v) e
     ∙ joined_push j operands cuts v

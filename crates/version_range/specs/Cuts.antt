@@ -8,8 +8,8 @@ use Rattle.plan_types.specs.declared.range.Range.TheFolds.{fold-Range}
 use Rattle.plan_types.specs.declared.range.Range.TheVariants as ranges
 use Rattle.plan_types.specs.Members.{order, members}
 use Rattle.version_range.specs.Version.{has_versions}
-use Rattle.version_range.specs.declared.merge.Joint.{Joint}
-use Rattle.version_range.specs.declared.merge.Joint.TheVariants.{Both, Either}
+use Rattle.version_range.specs.declared.merge.Connective.{Connective}
+use Rattle.version_range.specs.declared.merge.Connective.TheVariants.{Both, Either}
 
 -- whether a version is below another
 abbrev pub is_below : Version → Version → Bool
@@ -45,7 +45,7 @@ abbrev pub are_ends : List Version → Bool
 are_ends ends = rises (no_numbers ∷ ends)
 
 -- `&&` or `||` of two tests
-abbrev pub join : Joint → Bool → Bool → Bool
+abbrev pub join : Connective → Bool → Bool → Bool
 join Both a b = a && b
 join Either a b = a || b
 
@@ -78,18 +78,18 @@ pub record IsStep (first second : List Version) (e : Version) (from_first : Bool
   pub shorter : length xs + length ys < length first + length second
 
 -- whether a version is in all of the cuts (`Both`), or in some of them (`Either`)
-abbrev pub joined : Joint → List (List Version) → Version → Bool
+abbrev pub joined : Connective → List (List Version) → Version → Bool
 joined Both [] v = true
 joined Either [] v = false
 joined joint (ends ∷ more) v = join joint (inside ends v) (joined joint more v)
 
 -- two ranges under this operator
-abbrev pub joined_range : Joint → Range → Range → Range
+abbrev pub joined_range : Connective → Range → Range → Range
 joined_range Both left right = ranges.Both left right
 joined_range Either left right = ranges.Either left right
 
 -- whether one layer of a range has this operator
-abbrev pub joined_step : Joint → layer.Range-F Bool → Bool
+abbrev pub joined_step : Connective → layer.Range-F Bool → Bool
 joined_step joint layer.Any = false
 joined_step joint layer.Nothing = false
 joined_step joint (layer.Equal x) = false
@@ -105,11 +105,11 @@ joined_step Both (layer.Either left right) = false
 joined_step Either (layer.Either left right) = true
 
 -- whether a range has this operator at its top
-abbrev pub is_joined : Joint → Range → Bool
+abbrev pub is_joined : Connective → Range → Bool
 is_joined joint = fold-Range Bool (joined_step joint)
 
 -- The range has this operator and operands; with the consequences for members, versions and sizes.
-pub record IsSplit (joint : Joint) (range left right : Range) : Type 0 where
+pub record IsSplit (joint : Connective) (range left right : Range) : Type 0 where
   pub is : range ≡ joined_range joint left right
   pub members_are : (v : Version) → members range v ≡ join joint (members left v) (members right v)
   pub versions_are : has_versions range ≡ true → (has_versions left ≡ true) × (has_versions right ≡ true)
@@ -141,7 +141,7 @@ abbrev pub Relaxes : Bool → Bool → (Version → Bool) → (Version → Bool)
 Relaxes newer older has relaxed = (v : Version) → HasNumbers v → IsTrue (relaxed v) ↔ IsRelaxed newer older has v
 
 -- the least list of numbers above all lists with this prefix
-abbrev pub raised : List ℕ → List ℕ
-raised [] = []
-raised (n ∷ []) = (n + 1) ∷ []
-raised (n ∷ m ∷ ns) = n ∷ raised (m ∷ ns)
+abbrev pub prefix_end : List ℕ → List ℕ
+prefix_end [] = []
+prefix_end (n ∷ []) = (n + 1) ∷ []
+prefix_end (n ∷ m ∷ ns) = n ∷ prefix_end (m ∷ ns)

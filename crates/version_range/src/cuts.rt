@@ -6,7 +6,7 @@ ghost use Rattle.version_range.specs.Version.{has_versions};
 ghost use Rattle.version_range.specs.Cuts.{inside, are_ends, join, joined, is_joined, HasNumbers, IsSplit, Relaxes};
 
 use crate::interval::{above, any, at_least, at_most, below, equal, major, prefix};
-use crate::merge::{Joint, merged};
+use crate::merge::{Connective, merged};
 use plan_types::{List, NoMemory, Range, Version};
 use std::alloc::Global;
 use std::collections::VecDeque;
@@ -66,8 +66,8 @@ impl Cuts {
             Range::AtMost(x) => Ok(Cuts::from_ends(at_most(alloc, x)?)),
             Range::Below(x) => Ok(Cuts::from_ends(below(alloc, x)?)),
             Range::Major(x) => Ok(Cuts::from_ends(major(alloc, x)?)),
-            Range::Both(left, right) => chain(alloc, left.get(), right.get(), Joint::Both),
-            Range::Either(left, right) => chain(alloc, left.get(), right.get(), Joint::Either),
+            Range::Both(left, right) => chain(alloc, left.get(), right.get(), Connective::Both),
+            Range::Either(left, right) => chain(alloc, left.get(), right.get(), Connective::Either),
         }
     }
 
@@ -80,7 +80,7 @@ impl Cuts {
         }
     }
 
-    fn merge(self, alloc: Global, other: Cuts, joint: Joint) -> Result<Cuts, NoMemory>
+    fn merge(self, alloc: Global, other: Cuts, joint: Connective) -> Result<Cuts, NoMemory>
         ensures { IfOk result (λ c. (v : Version)
             → inside c v ≡ join joint (inside self v) (inside other v)) }
     {
@@ -128,7 +128,7 @@ fn from_least(ends: &mut Vec<Version>)
 
 // The cuts of a chain. A loop takes the operands from the right, and then merges them pairwise.
 #[cycle(cuts)]
-fn chain(alloc: Global, left: &Range, right: &Range, joint: Joint) -> Result<Cuts, NoMemory>
+fn chain(alloc: Global, left: &Range, right: &Range, joint: Connective) -> Result<Cuts, NoMemory>
     requires left { has_versions left.now ≡ true }
     requires right { has_versions right.now ≡ true }
     ensures { IfOk result (λ c. (v : Version) → HasNumbers v
@@ -146,7 +146,7 @@ fn chain(alloc: Global, left: &Range, right: &Range, joint: Joint) -> Result<Cut
 }
 
 // The two operands of a range, if its operator is this one.
-fn sides(range: &Range, joint: Joint) -> Option<(&Range, &Range)>
+fn sides(range: &Range, joint: Connective) -> Option<(&Range, &Range)>
     ensures { MatchOption result (is_joined joint range.now ≡ false)
         (λ p. IsSplit joint range.now p.0.now p.1.now) }
 {
@@ -161,18 +161,18 @@ fn sides(range: &Range, joint: Joint) -> Option<(&Range, &Range)>
         Range::Below(_) => None,
         Range::Major(_) => None,
         Range::Both(left, right) => match joint {
-            Joint::Both => Some((left.get(), right.get())),
-            Joint::Either => None,
+            Connective::Both => Some((left.get(), right.get())),
+            Connective::Either => None,
         },
         Range::Either(left, right) => match joint {
-            Joint::Both => None,
-            Joint::Either => Some((left.get(), right.get())),
+            Connective::Both => None,
+            Connective::Either => Some((left.get(), right.get())),
         },
     }
 }
 
 // Merges the first two and appends the result, until one is left.
-fn combined(alloc: Global, operands: List<Cuts>, joint: Joint) -> Result<Cuts, NoMemory>
+fn combined(alloc: Global, operands: List<Cuts>, joint: Connective) -> Result<Cuts, NoMemory>
     requires { 0 < length operands }
     ensures { IfOk result (λ c. (v : Version) → inside c v ≡ joined joint operands v) }
 {

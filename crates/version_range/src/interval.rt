@@ -5,7 +5,7 @@ ghost use Rattle.std.specs.Ordering.{is_eq, is_ge, is_gt, is_le, is_lt};
 ghost use Rattle.plan_types.specs.declared.version.Version.{Version};
 ghost use Rattle.plan_types.specs.Members.{order, major_end};
 ghost use Rattle.version_range.specs.Version.{IsVersion};
-ghost use Rattle.version_range.specs.Cuts.{inside, are_ends, is_below, raised, HasNumbers};
+ghost use Rattle.version_range.specs.Cuts.{inside, are_ends, is_below, prefix_end, HasNumbers};
 
 use plan_types::{List, NoMemory, Version};
 use std::alloc::Global;
@@ -54,7 +54,7 @@ fn next(alloc: Global, x: &Version) -> Result<Version, NoMemory>
 
 fn after_prefix(alloc: Global, x: &Version) -> Result<Version, NoMemory>
     requires { IsVersion x.now.parts }
-    ensures { IfOk result (λ v. v.parts ≡ raised x.now.parts) }
+    ensures { IfOk result (λ v. v.parts ≡ prefix_end x.now.parts) }
 {
     let mut parts = x.copy(alloc)?.parts;
     match parts.pop() {

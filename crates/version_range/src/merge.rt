@@ -10,18 +10,18 @@ use std::collections::VecDeque;
 
 /// How two sets are joined: intersection or union.
 #[derive(Clone, Copy)]
-pub enum Joint {
+pub enum Connective {
     Both,
     Either,
 }
 
-impl Joint {
+impl Connective {
     pub fn join(self, a: bool, b: bool) -> bool
         ensures { result ≡ join self a b }
     {
         match self {
-            Joint::Both => a && b,
-            Joint::Either => a || b,
+            Connective::Both => a && b,
+            Connective::Either => a || b,
         }
     }
 }
@@ -38,7 +38,7 @@ pub fn merged(
     alloc: Global,
     first: Vec<Version>,
     second: Vec<Version>,
-    joint: Joint,
+    joint: Connective,
 ) -> Result<List<Version>, NoMemory>
     requires first_rises { are_ends first.items ≡ true }
     requires second_rises { are_ends second.items ≡ true }

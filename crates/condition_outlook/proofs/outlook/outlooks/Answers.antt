@@ -34,7 +34,7 @@ loop-row-preserved c =
     let len : c.len.result ≡ length c.loop-row.before.items = omega (arith, c.len.ensures) in
     let at = c.index.ensures ∙ (λ i. get_or (numbers i) (len i) c.index.result.now) in
     let number = counted-next env held.0 more.0 c.loop-row.before.items cond c.index.result.now held.1 at in
-    let outlook : IsOutlook env cond (record { number = c.index.result.now.yes; never = c.in_ok-known.known.never }) = record { number = ap (λ n. n.yes) number; never = λ flags is. (new flags is).never } in (
+    let outlook : IsOutlook env cond (record { number = c.index.result.now.yes; known_impossible = c.in_ok-known.known.known_impossible }) = record { number = ap (λ n. n.yes) number; known_impossible = λ flags is. (new flags is).known_impossible } in (
       held.0 ++ cond ∷ [],
       subst (AreKnown env (held.0 ++ cond ∷ [])) (sym c.in_ok-push-2.ensures.items) (known-push env held.0 c.loop-row.before.items cond c.in_ok-known.known held.1 new),
       subst (AreOutlooks env (held.0 ++ cond ∷ [])) (sym c.in_ok-push.ensures.items) (outlook-push env held.0 c.loop-row.all.items cond _ held.2 outlook),

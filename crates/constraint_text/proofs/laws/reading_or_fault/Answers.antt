@@ -4,14 +4,14 @@ use Rattle.entry_text.proofs.Only as proof
 use Rattle.constraint_text.proofs.OneNamed.{named_settled}
 use Rattle.constraint_text.proofs.OneConstraint.{constraint_settled}
 use Rattle.constraint_text.proofs.OneRelax.{no_fault}
-use Rattle.constraint_text.specs.Faults.{BadAsNone}
+use Rattle.constraint_text.specs.Faults.{IsBadConstraint}
 use Rattle.constraint_text.proofs.laws.reading_or_fault.Goals as goal
 
 pub returns-clause-named : goal.returns-clause-named
-returns-clause-named c = proof.reading_or_fault NamedEntry (BadAsNone NamedEntry) named_settled.not_both
+returns-clause-named c = proof.reading_or_fault NamedEntry (IsBadConstraint NamedEntry) named_settled.not_both
 
 pub returns-clause-constraints : goal.returns-clause-constraints
-returns-clause-constraints c = proof.reading_or_fault ConstraintEntry (BadAsNone ConstraintEntry) constraint_settled.not_both
+returns-clause-constraints c = proof.reading_or_fault ConstraintEntry (IsBadConstraint ConstraintEntry) constraint_settled.not_both
 
 pub returns-clause-relaxes : goal.returns-clause-relaxes
 returns-clause-relaxes c text a cause r f = no_fault text r.each r.entries cause f

@@ -5,11 +5,11 @@ use Rattle.plan_types.specs.declared.refusal.Cause.{Cause}
 use Rattle.component_cycle.specs.Cycle.{IsFirstOnCycle}
 use Rattle.package_declarations.specs.Cycles.{needs}
 use Rattle.package_declarations.specs.Declarations.{own_name}
-use Rattle.description.specs.Description.{Comes, version_of}
+use Rattle.description.specs.Description.{IsFaultlessOutcome, version_of}
 use Rattle.description.specs.FaultOrder.{is_at}
 use Rattle.description.proofs.CircularComponents.{comes-circular}
-use Rattle.stanza_imports.specs.Bodies.{Stand}
-use Rattle.package_declarations.specs.DeclaredNames.{shown, Tells}
+use Rattle.stanza_imports.specs.Bodies.{AreBodiesOf}
+use Rattle.package_declarations.specs.DeclaredNames.{shown, RepresentsNames}
 use Rattle.description.specs.ShownVersion.{shown_version}
 use Rattle.description.proofs.read.faultless.Goals as goal
 
@@ -18,8 +18,8 @@ returns-in-Some-2-clause-fault c =
     let file = c.args.file.now in
     let d = c.in_ok-described.described in
     let number = c.in-Some-2.number in
-    let At : ℕ → Cause → Type 0 = λ line cause. Tells c.args.declared.now file → Stand file.sections c.args.bodies.now
-    → Comes file c.args.digest (own_name file.heads) (version_of file.heads) (Err (is_at line cause)) in
+    let At : ℕ → Cause → Type 0 = λ line cause. RepresentsNames c.args.declared.now file → AreBodiesOf file.sections c.args.bodies.now
+    → IsFaultlessOutcome file c.args.digest (own_name file.heads) (version_of file.heads) (Err (is_at line cause)) in
     subst (RefusesAt At) (sym c.circular.ensures) (λ tells stand.
     comes-circular file c.args.digest c.in-Some.name.now c.in-Some-version_of.version.now (own_name file.heads) (version_of file.heads) d
     c.as_slice-in-Some-2.result.now c.in_ok-number.field-0 number

@@ -4,7 +4,7 @@ use Rattle.condition_outlook.proofs.Never.{no-path-left}
 use Rattle.conditionals.specs.Paths.{paths_of}
 use Rattle.flatten.specs.Ways.{few_paths}
 use Rattle.flatten.proofs.JoinedPaths.{all-kept, never-met, no-more, none-kept, none-met}
-use Rattle.flatten.proofs.ways.ways_of.Goals.{then-number-eq0-via-then-number-eq0, then-number-eq0-via-else-number-eq0+then-number-gt-MOST_PATHS, then-number-eq0-via-else-number-eq0+else-number-gt-MOST_PATHS+then-never}
+use Rattle.flatten.proofs.ways.ways_of.Goals.{then-number-eq0-via-then-number-eq0, then-number-eq0-via-else-number-eq0+then-number-gt-MOST_PATHS, then-number-eq0-via-else-number-eq0+else-number-gt-MOST_PATHS+then-known_impossible}
 use Rattle.flatten.proofs.ways.ways_of.Goals as goal
 
 pub returns-then-number-eq0 : goal.returns-then-number-eq0
@@ -15,9 +15,9 @@ returns-then-number-eq0 c =
     let none : [] ≡ few_paths all = elim c.then-number-eq0.branch [
       | then-number-eq0-via-then-number-eq0 w ↦ none-met all _ is w.if-number-eq0.true
       | then-number-eq0-via-else-number-eq0+then-number-gt-MOST_PATHS w ↦ none-kept all _ is w.if-number-gt-MOST_PATHS.true
-      | then-number-eq0-via-else-number-eq0+else-number-gt-MOST_PATHS+then-never w ↦
-          let never = sym (ap (λ outlook. outlook.never) same) ∙ w.if-never.true in
-          never-met all _ is w.if-number-gt-MOST_PATHS.false (no-path-left c.args.env.now c.args.cond.now (λ flags met. let some = c.requires.2.never flags met in absurd (cc (never, some))))
+      | then-number-eq0-via-else-number-eq0+else-number-gt-MOST_PATHS+then-known_impossible w ↦
+          let never = sym (ap (λ outlook. outlook.known_impossible) same) ∙ w.if-known_impossible.true in
+          never-met all _ is w.if-number-gt-MOST_PATHS.false (no-path-left c.args.env.now c.args.cond.now (λ flags met. let some = c.requires.2.known_impossible flags met in absurd (cc (never, some))))
     ] in
     let paths = c.new.ensures ∙ none in
     λ i. record { number = is i; paths = paths i }

@@ -5,7 +5,7 @@ use Rattle.plan_types.specs.declared.dependency.Named.{Named}
 use Rattle.index_files.specs.Closure.{roots}
 use Rattle.index_files.specs.Ground.{ground_of}
 use Rattle.index_files.specs.Locals.{local_names}
-use Rattle.index_files.specs.Steps.{AreKept, ArePartly, Finds, IsVisited, Visits, pair_up}
+use Rattle.index_files.specs.Steps.{AreKept, AreReadSoFar, Finds, IsVisited, Visits, pair_up}
 use Rattle.index_files.specs.declared.closure.FoundName.{FoundName}
 use Rattle.index_files.proofs.Closing.{kept-first, partly-first}
 use Rattle.index_files.proofs.Finding.{beyond-here, kept-all, kept-on, pairs-on, partly-on, releases_in, whole-all, within-on}
@@ -37,7 +37,7 @@ loop-alloc-preserved g c =
           let told = some_at _ _ files (c.loop-alloc.invariant.folder.same_files ∙ t) c.in_ok-visit.ensures.told in
           let visited : IsVisited ground files (get_or names c.len-in-loop-alloc-2.result []) c.loop-alloc.totals c.visit.new.totals c.in-Some.one.releases =
           subst (λ o. Visits ground files (get_or names c.len-in-loop-alloc-2.result []) c.loop-alloc.totals c.visit.new.totals (option_map (λ (f : FoundName). f.releases) o)) c.in-Some.is told in
-          subst (ArePartly ground files c.args.totals c.visit.new.totals new) (sym ok)
+          subst (AreReadSoFar ground files c.args.totals c.visit.new.totals new) (sym ok)
           (partly-on ground names new found within pairs c.in-Some.one f files c.args.totals c.loop-alloc.totals c.visit.new.totals (c.loop-alloc.invariant.told files t)
           (subst (λ n. IsVisited ground files (get_or names n []) c.loop-alloc.totals c.visit.new.totals c.in-Some.one.releases) place visited));
       folder = onward _ _ _ _ _ (λ never. absurd never) (λ e. cc e) c.loop-alloc.invariant.folder c.in_ok-visit.ensures.folder;
@@ -64,8 +64,8 @@ loop-alloc-init g c =
       within = subst (λ (xs : List FoundName). length xs ≤ length names) (sym none) (omega arith);
       pairs = subst (λ xs. xs ≡ pair_up names (releases_in xs)) (sym none) (sym (pair_none names));
       kept = subst (AreKept ground names) (sym none) (subst (AreKept ground names) (pair_none names) (kept-first ground names first));
-      told = λ files t. subst (ArePartly ground files c.args.totals c.args.totals names) (sym none)
-          (subst (ArePartly ground files c.args.totals c.args.totals names) (pair_none names) (partly-first ground files names c.args.totals first));
+      told = λ files t. subst (AreReadSoFar ground files c.args.totals c.args.totals names) (sym none)
+          (subst (AreReadSoFar ground files c.args.totals c.args.totals names) (pair_none names) (partly-first ground files names c.args.totals first));
       folder = still _ _ _ (λ never. never);
     }
 

@@ -3,7 +3,7 @@ use Rattle.std.proofs.Common.{◌≡◌, false, length, map, take, Some}
 use Rattle.std.specs.List.{AllByRecursion}
 use Rattle.outside_folder.specs.Calls.{Leaves}
 use Rattle.outside_folder.specs.Files.{Files}
-use Rattle.index_files.specs.File.{Counts, IsReadable, file_found}
+use Rattle.index_files.specs.File.{Counts, HasContentWithinLimit, file_found}
 use Rattle.index_files.proofs.Fitting.{Fit}
 use Rattle.index_files.proofs.file.read_counted.Given as goal
 
@@ -13,6 +13,6 @@ invariant-loop-path g l = record {
   fit : Fit l.fn.totals.files l.fn.totals.bytes l.files l.totals.files l.totals.bytes;
   counts : Counts l.fn.totals l.totals l.files;
   length : length l.files ≡ l.path-index;
-  readable : AllByRecursion IsReadable l.files;
+  readable : AllByRecursion HasContentWithinLimit l.files;
   folder : Leaves g.F.Folder.tells g.F.Folder.faults l.fn.folder l.folder ⊥;
 }

@@ -4,7 +4,7 @@ use Rattle.plan_types.specs.declared.refusal.Halt.{Halt}
 use Rattle.outside_folder.specs.Calls.{halt_of}
 use Rattle.index_files.specs.Closure.{Ground, Reaches}
 use Rattle.plan_types.specs.Refusal.{Answers}
-use Rattle.index_files.specs.Readings.{AreIndexed, AreOf, AreRead}
+use Rattle.index_files.specs.Readings.{AreIndexed, AreOverGround, AreRead}
 use Rattle.index_files.proofs.Forms.{all-formed}
 use Rattle.index_files.proofs.Turns.{troubled}
 use Rattle.common_laws.specs.Small.{if_some, some_at}
@@ -40,4 +40,4 @@ pub returns-in-Some-clause-kept : goal.returns-in-Some-clause-kept
 returns-in-Some-clause-kept g c =
     let ground : Ground = record { env = c.args.env.now; places = c.args.places.now; locals = c.args.locals.list; units = c.args.counted.units.list; extra = c.args.extra.now } in
     let kept = some_at _ _ _ c.in-Some.is c.in_ok-found.ensures.kept in
-    subst (AreOf ground) (sym c.readings_of.ensures) (record { locals = refl; units = refl; units_formed = all-formed c.args.counted.units.list c.args.counted.units.formed; kept = kept })
+    subst (AreOverGround ground) (sym c.readings_of.ensures) (record { locals = refl; units = refl; units_formed = all-formed c.args.counted.units.list c.args.counted.units.formed; kept = kept })

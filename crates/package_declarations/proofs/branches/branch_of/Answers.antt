@@ -5,5 +5,5 @@ use Rattle.package_declarations.specs.Levels.{IsBranch}
 use Rattle.package_declarations.proofs.branches.branch_of.Goals as goal
 
 pub returns-in-If-clause-branch : goal.returns-in-If-clause-branch
-returns-in-If-clause-branch c = IfOk-weaker c.tried.result _ _ (λ level told left numbered.
-    subst (λ word. IsBranch c.tried.new.conds level (branch_of word left c.args.own.now)) (sym c.in-If.is) (told None tt)) c.tried.ensures.branch
+returns-in-If-clause-branch c = IfOk-weaker c.if_branch.result _ _ (λ level told left numbered.
+    subst (λ word. IsBranch c.if_branch.new.conds level (branch_of word left c.args.own.now)) (sym c.in-If.is) (told None tt)) c.if_branch.ensures.branch

@@ -2,7 +2,7 @@ use Rattle.std.proofs.Common.{◌≡◌, Bool, true, false, if◌then◌else◌,
 use Rattle.std.proofs.lemmas.Result.{on_ok_weaker}
 use Rattle.plan_types.specs.declared.condition.Cond.{Cond}
 use Rattle.section_syntax.specs.Branch.{branch_of}
-use Rattle.section_syntax.specs.Chained.{begun, left_by}
+use Rattle.section_syntax.specs.Chained.{begun, chain_after}
 use Rattle.package_declarations.specs.Levels.{AreLevels, IsNumbered}
 use Rattle.package_declarations.proofs.Levels.{levels-kept}
 use Rattle.package_declarations.proofs.branches.enter.Goals as goal
@@ -19,10 +19,10 @@ returns-in_ok-branch-in-Branch-clause-levels c = on_ok_weaker c.push_branch.resu
     let old = c.args.conds.now in
     let found = c.branch_of.new.conds in
     let fits = c.in-Branch.fits in
-    let left = if fits then left_by before else None in
+    let left = if fits then chain_after before else None in
     let fitted : IsNumbered old c.if-fits.chain left = elim c.if-fits.branch [
-      | then-fits w ↦ where-fits old fits c.args.chain c.if-fits.chain (left_by before) w.if-fits.true w.chain-is numbered
-      | else-fits w ↦ where-not old fits c.if-fits.chain (left_by before) w.if-fits.false w.chain-is
+      | then-fits w ↦ where-fits old fits c.args.chain c.if-fits.chain (chain_after before) w.if-fits.true w.chain-is numbered
+      | else-fits w ↦ where-not old fits c.if-fits.chain (chain_after before) w.if-fits.false w.chain-is
     ] in
     let one = branch_of c.in-Branch.word left c.in-Branch.condition in
     subst (λ said. AreLevels c.push_branch.new.conds [] c.push_branch.new.levels (opened ++ begun said before)) (sym c.in-Branch.is)

@@ -9,7 +9,7 @@ use Rattle.package_declarations.proofs.branches.push_branch.Goals as goal
 pub returns-clause-levels : goal.returns-clause-levels
 returns-clause-levels c = on_ok_weaker c.push.result (λ pushed opened one are is.
     let old = c.args.conds.now in
-    let new = c.behind.new.conds in
+    let new = c.conjunction.new.conds in
     let grown = c.in_ok-taken.ensures.grown in
     let around = map condition opened in
     let numbered =

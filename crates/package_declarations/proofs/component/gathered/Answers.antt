@@ -6,7 +6,7 @@ use Rattle.section_syntax.specs.Branch.{all_of}
 use Rattle.section_syntax.specs.Chained.{AreChained, branches_behind}
 use Rattle.package_declarations.specs.Components.{barrier, guarded}
 use Rattle.package_declarations.specs.Declarations.{meant}
-use Rattle.package_declarations.specs.Gathering.{Stands, bars, deps_in, place_in}
+use Rattle.package_declarations.specs.Gathering.{RepresentsState, bars, deps_in, place_in}
 use Rattle.stanza_imports.specs.Bodies.{placed_part}
 use Rattle.stanza_imports.specs.Parts.{deps_said}
 use Rattle.package_declarations.proofs.component.gathered.Goals as goal
@@ -63,7 +63,7 @@ pub returns-clause-barred : goal.returns-clause-barred
 returns-clause-barred c all =
     let s = c.loop-one.invariant.chained all in
     let none = drop_all c.loop-one.one-index c.args.placed.now (omega arith) in
-    (s.0, subst (Stands c.loop-one.gathered s.0) (sym (append-nil s.1) ∙ ap (λ l. s.1 ++ flat_map barrier (map placed_part l)) (sym none) ∙ s.4) s.2)
+    (s.0, subst (RepresentsState c.loop-one.gathered s.0) (sym (append-nil s.1) ∙ ap (λ l. s.1 ++ flat_map barrier (map placed_part l)) (sym none) ∙ s.4) s.2)
 
 pub returns-clause-deps : goal.returns-clause-deps
 returns-clause-deps c file tells all =

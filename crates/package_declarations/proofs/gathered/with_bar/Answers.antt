@@ -17,4 +17,4 @@ returns-clause-free c before place numbered is =
     let free = c.in_ok-free.ensures.number (joined_some before) (Not place) (numbered-kept old mid grown c.args.barred (joined_some before) numbered) bar in
     let said : unbuildable_said c.args.said.now ≡ true = sym c.is_unbuildable.ensures ∙ c.if-not-is_unbuildable.false in
     let all = ap (λ (b : Bool). joined_some (before ++ (if b then Not place ∷ [] else []))) said ∙ some-last before (Not place) in
-    subst (IsNumbered c.behind.new.conds (Some c.in_ok-free.free)) (sym all) free
+    subst (IsNumbered c.conjunction.new.conds (Some c.in_ok-free.free)) (sym all) free

@@ -12,7 +12,7 @@ returns-clause-told g c = if_some _ _ (λ files t.
 
 pub returns-clause-sound : goal.returns-clause-sound
 returns-clause-sound g c =
-    c.what_is_gathered_is_sound.ensures c.args.env.now c.args.places.now c.args.extra.now c.in_ok-readings.readings c.in_ok-index.index c.in_ok-readings.ensures.form c.requires c.in_ok-index.ensures
+    c.indexes_are_sound.ensures c.args.env.now c.args.places.now c.args.extra.now c.in_ok-readings.readings c.in_ok-index.index c.in_ok-readings.ensures.form c.requires c.in_ok-index.ensures
 
 pub returns-clause-extra : goal.returns-clause-extra
 returns-clause-extra g c =

@@ -1,8 +1,8 @@
 -- the places so far
 use Rattle.std.proofs.Common.{◌≡◌, take}
 use Rattle.std.specs.Prelude.{filter}
-use Rattle.plan_components.specs.Known.{asks_at}
+use Rattle.plan_components.specs.Known.{means_at}
 use Rattle.plan_components.proofs.needs.asked_at.Given as goal
 
 abbrev pub invariant-loop-place : goal.invariant-loop-place
-invariant-loop-place l = l.found ≡ filter (asks_at l.dep l.components) (take l.place-index l.places)
+invariant-loop-place l = l.found ≡ filter (means_at l.dep l.components) (take l.place-index l.places)

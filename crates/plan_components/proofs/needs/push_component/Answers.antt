@@ -1,12 +1,12 @@
 use Rattle.std.proofs.Common.{◌++◌, append-nil, sym, ap, ◌∙◌}
-use Rattle.plan_components.specs.Chosen.{holds, selection_of}
+use Rattle.plan_components.specs.Chosen.{condition_holds, selection_of}
 use Rattle.plan_components.proofs.Conditions.{no_needs}
 use Rattle.plan_components.proofs.needs.push_component.Goals as goal
 
-pub returns-else-holds : goal.returns-else-holds
-returns-else-holds c =
+pub returns-else-condition_holds : goal.returns-else-condition_holds
+returns-else-condition_holds c =
     let selection = selection_of c.args.chosen.now in
     let flags = c.args.owner.now.known.now.flags in
     let needs = c.args.needs.now in
-    let false = sym (c.holds.ensures ∙ ap (holds selection.env flags) c.get.ensures) ∙ c.if-holds.false in
+    let false = sym (c.condition_holds.ensures ∙ ap (condition_holds selection.env flags) c.get.ensures) ∙ c.if-condition_holds.false in
     sym (append-nil needs) ∙ ap (λ l. needs ++ l) (sym (no_needs selection flags c.args.own c.args.component.now c.args.owner.now.node false))

@@ -1,7 +1,7 @@
 -- the nodes so far
 use Rattle.std.proofs.Common.{take}
-use Rattle.plan_components.specs.Steps.{Puts}
+use Rattle.plan_components.specs.Steps.{AppendsNew}
 use Rattle.plan_components.proofs.put.put_all.Given as goal
 
 abbrev pub invariant-loop-other : goal.invariant-loop-other
-invariant-loop-other l = Puts (take l.other-index l.others) l.fn.nodes.keys l.nodes.keys
+invariant-loop-other l = AppendsNew (take l.other-index l.others) l.fn.nodes.keys l.nodes.keys

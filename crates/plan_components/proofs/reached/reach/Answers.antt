@@ -1,7 +1,7 @@
 use Rattle.std.proofs.Common.{◌<◌, ◌≤◌, ◌≡◌, length, sym, subst, ap, ◌∙◌, arith}
 use Rattle.plan_components.specs.Chosen.{selection_of}
 use Rattle.plan_components.specs.Needs.{needed_nodes, needs_of}
-use Rattle.plan_components.specs.Steps.{Puts, node_at}
+use Rattle.plan_components.specs.Steps.{AppendsNew, node_at}
 use Rattle.plan_components.proofs.Nodes.{differ}
 use Rattle.plan_components.proofs.Walk.{Keeps, all_needs, each_reached, keeps_first, keeps_next}
 use Rattle.plan_components.proofs.reached.reach.Goals as goal
@@ -26,7 +26,7 @@ loop-alloc-preserved c =
       keeps = subst (Keeps selection new) (sym c.in_ok-push.ensures.ok)
           (keeps_next selection nodes new needs c.in_ok-needed.needed c.loop-alloc.invariant.keeps within
           (c.in_ok-needed.ensures.needs ∙ ap (λ n. needs_of selection (node_at nodes n)) place)
-          (subst (λ n. Puts (needed_nodes selection (node_at nodes n)) nodes new) place c.in_ok-needed.ensures.put));
+          (subst (λ n. AppendsNew (needed_nodes selection (node_at nodes n)) nodes new) place c.in_ok-needed.ensures.put));
       last = c.in_ok-needed.ensures.last;
     }
 

@@ -27,8 +27,8 @@ push_segments-requires-clause-within c = λ t h.
     c.new-turns.ensures turned.extends c.into_vec-turns.ensures c.sort_unstable.ensures.permutation c.as_slice.ensures.value in
     turned.within t (sorted.back t h)
 
-pub push_segments-requires-clause-even : goal.push_segments-requires-clause-even
-push_segments-requires-clause-even c = λ a b after up upto free.
+pub push_segments-requires-clause-uniform : goal.push_segments-requires-clause-uniform
+push_segments-requires-clause-uniform c = λ a b after up upto free.
     let turned = c.in_ok-push_turns.ensures in
     let sorted = sorted-from c.new-turns.result turned.more c.push_turns.new.turns c.into_vec-turns.result.items c.sort_unstable.new.self.items c.as_slice.result.now
     c.new-turns.ensures turned.extends c.into_vec-turns.ensures c.sort_unstable.ensures.permutation c.as_slice.ensures.value in

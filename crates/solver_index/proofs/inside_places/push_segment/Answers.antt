@@ -16,7 +16,7 @@ returns-in_ok-push_run c =
     let within : first < length entries = omega (arith, c.if-first-last.true, c.requires.high) in
     let here = get_or_read entries first c.index-entries-first.result within c.index-entries-first.is no_entry in
     let is : test first ≡ true = ap (λ (e : Entry). inside c.args.cuts.now e.instance.version) (sym here ∙ c.index-entries-first.is) ∙ sym c.has.ensures ∙ c.if-has.true in
-    c.in_ok-push_run.ensures ∙ segment-kept test c.args.found.now first c.args.last c.requires.even is
+    c.in_ok-push_run.ensures ∙ segment-kept test c.args.found.now first c.args.last c.requires.uniform is
 
 pub returns-else-first-last : goal.returns-else-first-last
 returns-else-first-last c =
@@ -28,6 +28,6 @@ returns-else-first-last c =
           let within : first < length entries = omega (arith, w.if-first-last.true, c.requires.high) in
           let here = get_or_read entries first w.index-entries-first.result within w.index-entries-first.is no_entry in
           let is : test first ≡ false = ap (λ (e : Entry). inside c.args.cuts.now e.instance.version) (sym here ∙ w.index-entries-first.is) ∙ sym w.has.ensures ∙ w.if-has.false in
-          segment-dropped test c.args.found.now first c.args.last c.requires.even is
+          segment-dropped test c.args.found.now first c.args.last c.requires.uniform is
       | else-first-last-via-else-first-last w ↦ segment-empty test c.args.found.now first c.args.last w.if-first-last.false
     ]

@@ -24,13 +24,13 @@ push_segment-requires-clause-high c =
     let within = c.requires.within (get_or c.args.turns.now c.loop-turn.turn-index 0) (Contains-get_or c.args.turns.now c.loop-turn.turn-index 0 c.loop-turn-test.true) in
     omega (arith, within.1, c.requires.high)
 
-pub push_segment-requires-clause-even : goal.push_segment-requires-clause-even
-push_segment-requires-clause-even c = λ i after upto.
+pub push_segment-requires-clause-uniform : goal.push_segment-requires-clause-uniform
+push_segment-requires-clause-uniform c = λ i after upto.
     let turns = c.args.turns.now in
     let index = c.loop-turn.turn-index in
     let inv = c.loop-turn.invariant in
     let within = c.requires.within (get_or turns index 0) (Contains-get_or turns index 0 c.loop-turn-test.true) in
-    c.requires.even c.loop-turn.first i inv.low after (omega (arith, upto, within.1)) (free-segment turns index c.loop-turn.first i c.requires.rising c.loop-turn-test.true inv.earlier upto)
+    c.requires.uniform c.loop-turn.first i inv.low after (omega (arith, upto, within.1)) (free-segment turns index c.loop-turn.first i c.requires.rising c.loop-turn-test.true inv.earlier upto)
 
 pub loop-turn-preserved : goal.loop-turn-preserved
 loop-turn-preserved c =
@@ -50,11 +50,11 @@ loop-turn-preserved c =
       later = λ k h below. c.requires.rising index k 0 (omega (arith, h)) below;
     }
 
-pub push_segment-requires-2-clause-even : goal.push_segment-requires-2-clause-even
-push_segment-requires-2-clause-even c = λ i after upto.
+pub push_segment-requires-2-clause-uniform : goal.push_segment-requires-2-clause-uniform
+push_segment-requires-2-clause-uniform c = λ i after upto.
     let inv = c.loop-turn.invariant in
     let turns = c.args.turns.now in
-    c.requires.even c.loop-turn.first i inv.low after upto (free-end turns c.loop-turn.first i (λ k below. inv.earlier k (omega (arith, below, c.loop-turn-test.false))))
+    c.requires.uniform c.loop-turn.first i inv.low after upto (free-end turns c.loop-turn.first i (λ k below. inv.earlier k (omega (arith, below, c.loop-turn-test.false))))
 
 pub returns : goal.returns
 returns c =

@@ -1,5 +1,5 @@
 use Rattle.constraint_text.specs.Constraints.{ConstraintEntry}
-use Rattle.constraint_text.specs.Faults.{BadAsNone}
+use Rattle.constraint_text.specs.Faults.{IsBadConstraint}
 use Rattle.constraint_text.specs.Named.{NamedEntry}
 use Rattle.text_answers.proofs.Constraints.{named_decided, some_constraint}
 use Rattle.text_answers.proofs.Decided.{bad_as_none}
@@ -8,10 +8,10 @@ use Rattle.text_answers.proofs.Relaxes.{some_relaxes}
 use Rattle.text_answers.proofs.laws.some_constraints.Goals as goal
 
 pub returns-clause-named : goal.returns-clause-named
-returns-clause-named c = proof.some_reading NamedEntry (BadAsNone NamedEntry) (λ part. bad_as_none NamedEntry part (named_decided part))
+returns-clause-named c = proof.some_reading NamedEntry (IsBadConstraint NamedEntry) (λ part. bad_as_none NamedEntry part (named_decided part))
 
 pub returns-clause-constraints : goal.returns-clause-constraints
-returns-clause-constraints c = proof.some_reading ConstraintEntry (BadAsNone ConstraintEntry) some_constraint
+returns-clause-constraints c = proof.some_reading ConstraintEntry (IsBadConstraint ConstraintEntry) some_constraint
 
 pub returns-clause-relaxes : goal.returns-clause-relaxes
 returns-clause-relaxes c = some_relaxes

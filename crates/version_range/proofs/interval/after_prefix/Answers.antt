@@ -1,6 +1,6 @@
 use Rattle.std.proofs.Common.{subst, sym, ap, ◌∙◌, arith}
 use Rattle.version_range.specs.Version.{IsVersion, IsNumber}
-use Rattle.version_range.specs.Cuts.{raised}
+use Rattle.version_range.specs.Cuts.{prefix_end}
 use Rattle.version_range.proofs.Intervals.{raised_last, last_number}
 use Rattle.version_range.proofs.interval.after_prefix.Goals as goal
 
@@ -13,4 +13,4 @@ pub returns-in_ok-push-in-Some : goal.returns-in_ok-push-in-Some
 returns-in_ok-push-in-Some c =
     c.in_ok-push-in-Some.ensures.ok
     ∙ sym (raised_last c.pop.new.self c.in-Some.last)
-    ∙ ap raised (sym c.in-Some.ensures ∙ ap (λ v. v.parts) c.in_ok-parts.ensures)
+    ∙ ap prefix_end (sym c.in-Some.ensures ∙ ap (λ v. v.parts) c.in_ok-parts.ensures)

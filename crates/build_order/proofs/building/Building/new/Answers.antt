@@ -17,10 +17,10 @@ loop-node-init c =
 pub loop-node-preserved : goal.loop-node-preserved
 loop-node-preserved c =
     let inv = c.loop-node.invariant in
-    let e = c.in_ok-settle.ensures in
+    let e = c.in_ok-wait_or_ready.ensures in
     let n = c.loop-node.node in
     record {
-      sound = settled c.args.needs.now (λ u. n ≤ u) (λ u. n + 1 ≤ u) c.loop-node.building c.settle.new.self n 0 c.requires inv.sound
+      sound = settled c.args.needs.now (λ u. n ≤ u) (λ u. n + 1 ≤ u) c.loop-node.building c.wait_or_ready.new.self n 0 c.requires inv.sound
           (record { within = c.loop-node-test.true; unplaced = λ h. contains-none n (subst (λ (o : List ℕ). Contains o n) inv.order h); met = λ k lt l. absurd (omega (arith, lt)) })
           (λ u p. ⊎_elim (λ i. inl i) (λ d. inr (omega (arith, p, d))) (cases_eq u n)) e.order e.placed e.settled;
       order = e.order ∙ inv.order;

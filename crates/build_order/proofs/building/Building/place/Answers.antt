@@ -23,21 +23,21 @@ loop-wait-init c =
       marks = e.placed;
     }
 
-pub settle-requires-clause-node : goal.settle-requires-clause-node
-settle-requires-clause-node c =
+pub wait_or_ready-requires-clause-node : goal.wait_or_ready-requires-clause-node
+wait_or_ready-requires-clause-node c =
     let wait = c.in-Some.wait in
     (c.loop-wait.invariant.met wait (subst (λ ws. Contains ws wait) (sym c.in-Some.ensures) (Contains-push c.pop.new.self wait))).within
 
 pub loop-wait-preserved : goal.loop-wait-preserved
 loop-wait-preserved c =
     let inv = c.loop-wait.invariant in
-    let e = c.in_ok-settle.ensures in
+    let e = c.in_ok-wait_or_ready.ensures in
     let wait = c.in-Some.wait in
     let rest = c.pop.new.self in
     let needs = c.args.needs.now in
     let met = λ (w : Wait) (h : Contains (rest ++ wait ∷ []) w). inv.met w (subst (λ ws. Contains ws w) (sym c.in-Some.ensures) h) in
     record {
-      sound = settled needs (IsIn c.loop-wait.waits) (IsIn rest) c.loop-wait.self c.settle.new.self wait.node wait.place c.requires.graph inv.sound
+      sound = settled needs (IsIn c.loop-wait.waits) (IsIn rest) c.loop-wait.self c.wait_or_ready.new.self wait.node wait.place c.requires.graph inv.sound
           (met wait (Contains-push rest wait))
           (λ u p. ⊎_elim (λ o. inr (p.0, o, p.2)) (λ i. inl (sym p.2 ∙ ap (λ (w : Wait). w.node) (sym i)))
           (Contains-push_cases rest wait p.0 (subst (λ ws. Contains ws p.0) c.in-Some.ensures p.1)))

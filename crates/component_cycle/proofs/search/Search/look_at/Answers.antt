@@ -2,8 +2,8 @@ use Rattle.std.proofs.Common.{◌≡◌, ◌≢◌, List, length, Some, get_or, 
 use Rattle.std.proofs.lemmas.List.{length_push}
 use Rattle.std.proofs.lemmas.Result.{on_ok_weaker}
 use Rattle.component_cycle.specs.declared.search.State.{State}
-use Rattle.component_cycle.specs.declared.search.State.TheVariants.{Unseen, Settled}
-use Rattle.component_cycle.specs.Search.{state, IsSound, Follows, costs}
+use Rattle.component_cycle.specs.declared.search.State.TheVariants.{Unseen, Finished}
+use Rattle.component_cycle.specs.Search.{state, IsSound, DoesNotRaise, costs}
 use Rattle.component_cycle.proofs.Enters.{entered-follows}
 use Rattle.component_cycle.proofs.Joins.{joined-sound, joined-all, joined-done, popped-is, settled-sound, with_marks}
 use Rattle.component_cycle.proofs.search.Search.look_at.Goals as goal
@@ -41,14 +41,14 @@ returns-after-loop-self c =
 pub returns-in-Unseen : goal.returns-in-Unseen
 returns-in-Unseen c =
     let here : state c.args.self.now c.args.node ≡ Unseen = sym (ap (λ (ss : List State). get_or ss c.args.node Unseen) c.as_slice.ensures) ∙ c.in-Unseen.is in
-    on_ok_weaker c.enter.result (λ e. subst (λ t. Follows c.args.needs.now c.args.self.now t) (sym e)
+    on_ok_weaker c.enter.result (λ e. subst (λ t. DoesNotRaise c.args.needs.now c.args.self.now t) (sym e)
     (entered-follows c.args.needs.now c.args.self.now c.args.node c.requires.sound here c.requires.node c.requires.leads)) c.enter.ensures
 
-pub returns-in-Settled : goal.returns-in-Settled
-returns-in-Settled c =
-    let here : state c.args.self.now c.args.node ≡ Settled c.in-Settled.field-0 = sym (ap (λ (ss : List State). get_or ss c.args.node Unseen) c.as_slice.ensures) ∙ c.in-Settled.is in
+pub returns-in-Finished : goal.returns-in-Finished
+returns-in-Finished c =
+    let here : state c.args.self.now c.args.node ≡ Finished c.in-Finished.field-0 = sym (ap (λ (ss : List State). get_or ss c.args.node Unseen) c.as_slice.ensures) ∙ c.in-Finished.is in
     record {
-      sound = settled-sound c.args.needs.now c.args.self.now c.args.node c.requires.sound c.in-Settled.field-0 here;
+      sound = settled-sound c.args.needs.now c.args.self.now c.args.node c.requires.sound c.in-Finished.field-0 here;
       seen = λ v ne. ne;
       less = omega arith;
     }

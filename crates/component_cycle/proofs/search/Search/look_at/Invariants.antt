@@ -1,13 +1,13 @@
 use Rattle.std.proofs.Common.{◌≡◌, ◌≤◌, length, Some}
 use Rattle.component_cycle.specs.declared.search.State.TheVariants.{OnPath}
-use Rattle.component_cycle.specs.Search.{IsSound, Leads, state}
+use Rattle.component_cycle.specs.Search.{IsSound, AllReach, state}
 use Rattle.component_cycle.proofs.search.Search.look_at.Given as goal
 
 abbrev pub invariant-loop-self : goal.invariant-loop-self
 invariant-loop-self l =
     record {
       sound : IsSound l.needs l.self (Some l.node);
-      leads : Leads l.needs l.self l.node;
+      leads : AllReach l.needs l.self l.node;
       here : state l.self l.node ≡ OnPath l.place;
       states : l.self.states ≡ l.initial.self.states;
       waiting : l.self.waiting ≡ l.initial.self.waiting;

@@ -2,7 +2,7 @@ use Rattle.std.proofs.Common.{◌++◌, List, [], length, map, take, slice_get, 
 use Rattle.plan_types.specs.Guarded.{under}
 use Rattle.plan_types.specs.declared.condition.Cond.TheVariants.{Always}
 use Rattle.plan_types.specs.declared.dependency.Dep.{Dep}
-use Rattle.section_syntax.specs.Chained.{left_by}
+use Rattle.section_syntax.specs.Chained.{chain_after}
 use Rattle.package_declarations.specs.Declarations.{meant}
 use Rattle.package_declarations.specs.Gathering.{bars, deps_in, joined_some, place_in}
 use Rattle.package_declarations.specs.Levels.{AreLevels, IsNumbered, chain_at, number_at}
@@ -29,12 +29,12 @@ returns-clause-stands c opened barred stands =
     let at = c.number_at-here.ensures ∙ ap number_at c.as_slice.ensures in
     let is = ap (slice_get old) at ∙ place-numbered old c.leave-chain.new.levels here stands.root are in
     let chain = c.leave-chain.ensures.chain ∙ ap (λ n. chain_at c.args.self.levels n) c.len.ensures in
-    let numbered = subst (λ n. IsNumbered old n (left_by before)) (sym chain) (chain-numbered old [] depth c.args.self.levels opened stands.levels) in
+    let numbered = subst (λ n. IsNumbered old n (chain_after before)) (sym chain) (chain-numbered old [] depth c.args.self.levels opened stands.levels) in
     record {
       root = kept old new grown 0 Always stands.root;
       levels =
           c.in_ok-enter.ensures.levels here before (levels-kept old mid barring [] c.leave-chain.new.levels here are)
-          (numbered-kept old mid barring c.leave-chain.result (left_by before) numbered);
+          (numbered-kept old mid barring c.leave-chain.result (chain_after before) numbered);
       groups = groups-kept old new grown c.in_ok-groups.groups (c.in_ok-groups.ensures.tabled place is stands.groups);
       free =
           numbered-kept mid new entering c.in_ok-barred.barred (joined_some (barred ++ bars part.said place))

@@ -1,14 +1,14 @@
 use Rattle.std.proofs.Common.{◌≡◌, ◌≤◌}
 use Rattle.plan_types.specs.declared.condition.Cond.{size-Cond}
-use Rattle.plan_components.specs.Chosen.{holds}
-use Rattle.plan_components.proofs.chosen.Chosen.+holds.Given as goal
+use Rattle.plan_components.specs.Chosen.{condition_holds}
+use Rattle.plan_components.proofs.chosen.Chosen.+condition_holds.Given as goal
 
 abbrev pub decreases-holds : goal.decreases-holds
 decreases-holds l = size-Cond l.cond.now
 
 -- if the last sides are Yes, the rest decides, and it is no larger than the whole
 abbrev pub invariant-loop-left : goal.invariant-loop-left
-invariant-loop-left l = (holds l.self.env.now l.flags l.left ≡ holds l.self.env.now l.flags l.cond) × (size-Cond l.left ≤ size-Cond l.cond)
+invariant-loop-left l = (condition_holds l.self.env.now l.flags l.left ≡ condition_holds l.self.env.now l.flags l.cond) × (size-Cond l.left ≤ size-Cond l.cond)
 
 abbrev pub decreases-loop-left : goal.decreases-loop-left
 decreases-loop-left l = size-Cond l.left

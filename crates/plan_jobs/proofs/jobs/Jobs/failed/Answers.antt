@@ -3,8 +3,8 @@ use Rattle.std.proofs.lemmas.Result.{err_from_is_err_and}
 use Rattle.plan_jobs.specs.declared.job.JobFault.TheVariants.{NotRunning}
 use Rattle.plan_jobs.specs.declared.job.JobState.{JobState}
 use Rattle.plan_jobs.specs.declared.job.JobState.TheVariants.{Running, Failed}
-use Rattle.plan_jobs.specs.Events.{IsEnd, fails}
-use Rattle.plan_jobs.specs.Board.{AreAfter, AreBegun, HoldsMore, Keeps, state_at}
+use Rattle.plan_jobs.specs.Events.{IsReportReply, fails}
+use Rattle.plan_jobs.specs.Board.{AreAfter, AreBegun, MarksMore, Keeps, state_at}
 use Rattle.plan_jobs.proofs.Changes.{fail_keeps, begun_now}
 use Rattle.plan_jobs.proofs.Told.{after_failure, after_no_failure, runs_from, runs_to}
 use Rattle.plan_jobs.proofs.jobs.Jobs.failed.Goals as goal
@@ -14,7 +14,7 @@ returns-in_err-place-clause-reply c nodes slots events a =
     let p = err_from_is_err_and c.from_residual.result c.from_residual.ensures.1 in
     let e : c.from_residual.result ≡ Err NotRunning = p.1 ∙ ap Err (p.2 ∙ c.in_err-place.ensures.0) in
     let same : c.as_slice.result.now ≡ c.args.self.now.states = c.as_slice.ensures ∙ ap (λ b. b.states) c.self.view_is in
-    subst (λ r. IsEnd nodes events c.args.place r) (sym e)
+    subst (λ r. IsReportReply nodes events c.args.place r) (sym e)
     (λ runs. c.in_err-place.ensures.1 (subst (λ (states : List JobState). (c.args.place < length states) × (state_at states c.args.place ≡ Running)) (sym same) (runs_to nodes slots events c.args.self.now a c.args.place runs)))
 
 pub returns-in_err-place-clause-after : goal.returns-in_err-place-clause-after
@@ -26,8 +26,8 @@ returns-in_err-place-clause-after c nodes slots events a =
     (after_no_failure nodes slots events c.args.self.now a c.args.place NotRunning
     (λ runs. c.in_err-place.ensures.1 (subst (λ (states : List JobState). (c.args.place < length states) × (state_at states c.args.place ≡ Running)) (sym same) (runs_to nodes slots events c.args.self.now a c.args.place runs))))
 
-pub hold-requires-clause-begun : goal.hold-requires-clause-begun
-hold-requires-clause-begun c =
+pub mark_held-requires-clause-begun : goal.mark_held-requires-clause-begun
+mark_held-requires-clause-begun c =
     let i = c.self.inside in
     let place = c.in_ok-place.place in
     let runs : state_at i.states place ≡ Running =
@@ -41,11 +41,11 @@ invariant_of-self c =
     let place = c.in_ok-place.place in
     let runs : state_at i.states place ≡ Running =
     ap (λ (states : List JobState). state_at states place) (sym c.as_slice.ensures) ∙ ap (λ k. state_at c.as_slice.result.now k) c.in_ok-place.ensures.0 ∙ c.in_ok-place.ensures.2 in
-    let e = c.hold.ensures in
-    let m = subst (λ (states : List JobState). HoldsMore i.users.items states place i.held c.hold.new.held) (c.as_slice-3.ensures ∙ c.set.ensures)
-    (subst (λ users. HoldsMore users c.as_slice-3.result.now place i.held c.hold.new.held) c.as_slice-2.ensures.value e.more) in
-    subst (λ (states : List JobState). Keeps i.users.items states i.unmet i.ready c.hold.new.held c.hold.new.to_go (i.running - 1) i.slots) (sym c.set.ensures)
-    (fail_keeps i.users.items i.states i.unmet i.ready i.held i.to_hold i.running i.slots c.self.invariant place runs c.hold.new.held c.hold.new.to_go m e.room e.idle)
+    let e = c.mark_held.ensures in
+    let m = subst (λ (states : List JobState). MarksMore i.users.items states place i.held c.mark_held.new.held) (c.as_slice-3.ensures ∙ c.set.ensures)
+    (subst (λ users. MarksMore users c.as_slice-3.result.now place i.held c.mark_held.new.held) c.as_slice-2.ensures.value e.more) in
+    subst (λ (states : List JobState). Keeps i.users.items states i.unmet i.ready c.mark_held.new.held c.mark_held.new.to_go (i.running - 1) i.slots) (sym c.set.ensures)
+    (fail_keeps i.users.items i.states i.unmet i.ready i.held i.to_hold i.running i.slots c.self.invariant place runs c.mark_held.new.held c.mark_held.new.to_go m e.room e.idle)
 
 pub returns-clause-reply : goal.returns-clause-reply
 returns-clause-reply c nodes slots events a =

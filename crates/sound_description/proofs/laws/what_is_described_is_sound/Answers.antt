@@ -1,5 +1,0 @@
-use Rattle.sound_description.proofs.Sound.{described_sound}
-use Rattle.sound_description.proofs.laws.what_is_described_is_sound.Goals as goal
-
-pub returns : goal.returns
-returns c items digest d describes = described_sound items digest d describes
