@@ -14,7 +14,7 @@ use Rattle.choice_problem.specs.declared.problem.Choice.{Choice}
 use Rattle.choice_problem.specs.declared.problem.Demand.{Demand}
 use Rattle.solver_index.specs.declared.dependencies.Dependencies.{Dependencies}
 use Rattle.solver_index.specs.declared.dependencies.ConditionalDep.{ConditionalDep}
-use Rattle.solver_index.specs.declared.dependencies.Need.{Need}
+use Rattle.solver_index.specs.declared.dependencies.UnitNeed.{UnitNeed}
 use Rattle.solver_index.specs.declared.dependencies.Setting.{Setting}
 use Rattle.solver_index.specs.declared.dependencies.Target.{Target}
 use Rattle.cabal_problem.specs.Variables.{has_kind, is_benchmark, is_suite}
@@ -64,7 +64,7 @@ abbrev pub setup_demand_to : Choice → Target → Demand
 setup_demand_to owner target = target_demand owner (owner ∷ []) kind.Setup target
 
 -- the demand on a unit
-abbrev pub need_demand : Choice → Need → Demand
+abbrev pub need_demand : Choice → UnitNeed → Demand
 need_demand owner need = record { when = owner ∷ []; target = package_var owner.var.qual need.«package»; allowed = need.allowed }
 
 -- the demands of a source instance

@@ -10,7 +10,7 @@ use crate::variables::{has_benchmark, has_suite, is_top};
 use choice_problem::{Choice, Demand};
 use plan_types::{DepKind, Description, List, NoMemory, Package};
 use qualified_goals::{Part, Qual, Var};
-use solver_index::{ConditionalDep, Need, Setting, Target, is_local};
+use solver_index::{ConditionalDep, UnitNeed, Setting, Target, is_local};
 use std::alloc::Global;
 
 /// A part of the owner's package, under its qualifier.
@@ -233,7 +233,7 @@ fn setup_demand_to(alloc: Global, owner: Choice, target: &Target) -> Result<Dema
 pub(crate) fn unit_demands(
     alloc: Global,
     owner: Choice,
-    needs: &[Need],
+    needs: &[UnitNeed],
 ) -> Result<List<Demand>, NoMemory>
     ensures { IfOk result (λ found. found ≡ map (need_demand owner) needs.now) }
 {
@@ -244,7 +244,7 @@ pub(crate) fn unit_demands(
     Ok(found)
 }
 
-fn need_demand(alloc: Global, owner: Choice, need: &Need) -> Result<Demand, NoMemory>
+fn need_demand(alloc: Global, owner: Choice, need: &UnitNeed) -> Result<Demand, NoMemory>
     ensures { IfOk result (λ demand. demand ≡ need_demand owner need.now) }
 {
     let when = alone(alloc, owner)?;

@@ -81,13 +81,13 @@ fn outcome(alloc: Global, problem: Option<Written>) -> Result<String, NoMemory> 
 
 // A problem that counts the calls for orders and for demands.
 #[derive(Drop)]
-struct Asked<C> {
+struct CountedQuestions<C> {
     choices: C,
     orders: Cell<u64>,
     demands: Cell<u64>,
 }
 
-impl<C: Choices> Choices for Asked<C> {
+impl<C: Choices> Choices for CountedQuestions<C> {
     ghost problem = { λ a. C.problem a.choices };
 
     ghost lawful = { λ a. C.lawful a.choices };
@@ -119,20 +119,20 @@ impl<C: Choices> Choices for Asked<C> {
     }
 }
 
-impl<C> Asked<C> {
+impl<C> CountedQuestions<C> {
     fn amount(&self) -> &'static str {
         let are_few = self.orders.get() <= 17 && self.demands.get() <= 20;
         if are_few { "few" } else { "many" }
     }
 }
 
-fn found(alloc: Global, problem: &Asked<Written>) -> Result<String, NoMemory> {
+fn found(alloc: Global, problem: &CountedQuestions<Written>) -> Result<String, NoMemory> {
     let outcome = searched(alloc, problem)?;
     shown(alloc, &outcome)
 }
 
 fn questions(alloc: Global, choices: Written) -> Result<String, NoMemory> {
-    let problem = Asked {
+    let problem = CountedQuestions {
         choices,
         orders: Cell::new(0),
         demands: Cell::new(0),

@@ -9,7 +9,7 @@ use std::process::Abort;
 use std::test::Fail;
 
 #[derive(Clone, Copy)]
-enum Table {
+enum CallTable {
     Memory,
     Sinks,
     Graphs,
@@ -23,40 +23,40 @@ enum Table {
     Searches,
 }
 
-fn cases(table: Table) -> &'static str {
+fn cases(table: CallTable) -> &'static str {
     match table {
-        Table::Memory => memory::CASES,
-        Table::Sinks => sinks::CASES,
-        Table::Graphs => graphs::CASES,
-        Table::Printed => printed::CASES,
-        Table::Conditions => conditions::CASES,
-        Table::Outlooks => outlooks::CASES,
-        Table::Listings => listings::CASES,
-        Table::Orders => orders::CASES,
-        Table::Answers => answers::CASES,
-        Table::Builds => builds::CASES,
-        Table::Searches => searches::CASES,
+        CallTable::Memory => memory::CASES,
+        CallTable::Sinks => sinks::CASES,
+        CallTable::Graphs => graphs::CASES,
+        CallTable::Printed => printed::CASES,
+        CallTable::Conditions => conditions::CASES,
+        CallTable::Outlooks => outlooks::CASES,
+        CallTable::Listings => listings::CASES,
+        CallTable::Orders => orders::CASES,
+        CallTable::Answers => answers::CASES,
+        CallTable::Builds => builds::CASES,
+        CallTable::Searches => searches::CASES,
     }
 }
 
-fn answer(alloc: Global, table: Table, case: &str) -> Result<String, Fail> {
+fn answer(alloc: Global, table: CallTable, case: &str) -> Result<String, Fail> {
     match table {
-        Table::Memory => memory::answer(alloc, case),
-        Table::Sinks => sinks::answer(alloc, case),
-        Table::Graphs => graphs::answer(alloc, case),
-        Table::Printed => printed::answer(alloc, case),
-        Table::Conditions => conditions::answer(alloc, case),
-        Table::Outlooks => outlooks::answer(alloc, case),
-        Table::Listings => listings::answer(alloc, case),
-        Table::Orders => orders::answer(alloc, case),
-        Table::Answers => answers::answer(alloc, case),
-        Table::Builds => builds::answer(alloc, case),
-        Table::Searches => searches::answer(alloc, case),
+        CallTable::Memory => memory::answer(alloc, case),
+        CallTable::Sinks => sinks::answer(alloc, case),
+        CallTable::Graphs => graphs::answer(alloc, case),
+        CallTable::Printed => printed::answer(alloc, case),
+        CallTable::Conditions => conditions::answer(alloc, case),
+        CallTable::Outlooks => outlooks::answer(alloc, case),
+        CallTable::Listings => listings::answer(alloc, case),
+        CallTable::Orders => orders::answer(alloc, case),
+        CallTable::Answers => answers::answer(alloc, case),
+        CallTable::Builds => builds::answer(alloc, case),
+        CallTable::Searches => searches::answer(alloc, case),
     }
 }
 
 // The cases of a table with a wrong answer, and this answer below each.
-fn others(alloc: Global, table: Table) -> Result<String, Fail> {
+fn others(alloc: Global, table: CallTable) -> Result<String, Fail> {
     let mut others = String::new(alloc);
     for line in cases(table).lines() {
         let (case, wanted) = line.rsplit_once(" => ").ok_or("no answer")?;
@@ -68,7 +68,7 @@ fn others(alloc: Global, table: Table) -> Result<String, Fail> {
     Ok(others)
 }
 
-fn assert_no_others(rt: &impl Abort, alloc: Global, tables: &[Table]) -> Result<(), Fail> {
+fn assert_no_others(rt: &impl Abort, alloc: Global, tables: &[CallTable]) -> Result<(), Fail> {
     for table in tables {
         assert_eq!(rt; others(alloc, *table)?.as_str(), "");
     }
@@ -80,7 +80,7 @@ fn folders_and_sinks(rt: HostRuntime) -> Result<(), Fail> {
     assert_no_others(
         &rt,
         rt.alloc(),
-        &[Table::Memory, Table::Sinks, Table::Listings],
+        &[CallTable::Memory, CallTable::Sinks, CallTable::Listings],
     )
 }
 
@@ -89,22 +89,22 @@ fn texts_and_conditions(rt: HostRuntime) -> Result<(), Fail> {
     assert_no_others(
         &rt,
         rt.alloc(),
-        &[Table::Printed, Table::Conditions, Table::Outlooks],
+        &[CallTable::Printed, CallTable::Conditions, CallTable::Outlooks],
     )
 }
 
 #[test]
 fn graphs_of_many_nodes(rt: HostRuntime) -> Result<(), Fail> {
-    assert_no_others(&rt, rt.alloc(), &[Table::Graphs])
+    assert_no_others(&rt, rt.alloc(), &[CallTable::Graphs])
 }
 
 #[test]
 fn plans_and_searches(rt: HostRuntime) -> Result<(), Fail> {
     let tables = [
-        Table::Orders,
-        Table::Answers,
-        Table::Builds,
-        Table::Searches,
+        CallTable::Orders,
+        CallTable::Answers,
+        CallTable::Builds,
+        CallTable::Searches,
     ];
     assert_no_others(&rt, rt.alloc(), &tables)
 }

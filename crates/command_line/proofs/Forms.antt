@@ -10,7 +10,7 @@ use Rattle.std.proofs.lemmas.List.Splits.{join_with_byte-slice_split, length-sli
 use Rattle.plan_types.specs.Bytes.{begins_with}
 use Rattle.plan_types.specs.Name.{is_letter_or_digit}
 use Rattle.common_laws.specs.Small.{letter-small}
-use Rattle.condition_text.specs.declared.name.Form.TheVariants.{Compiler}
+use Rattle.condition_text.specs.declared.name.NameForm.TheVariants.{Compiler}
 use Rattle.condition_text.specs.Grammar.{is_compiler_name}
 use Rattle.version_range.specs.Number.{is_count}
 use Rattle.version_range.specs.Version.{IsNumber, is_version, number_after, version_text}

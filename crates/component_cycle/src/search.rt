@@ -3,8 +3,8 @@
 // becomes a new last group; a target on the path merges all groups from its own on. A last group without further edges
 // is a whole strongly connected component, and is settled.
 ghost use Rattle.std.specs.Prelude.{◌≡◌, ◌≢◌, ◌≤◌, ◌<◌, ◌↔◌, ◌⊎◌, ℕ, List, [], ◌++◌, length, IsTrue, IfOk, OnOk, MatchOption, true, false, All, Contains, drop, slice_index, slice_index_or, replicate, position};
-ghost use Rattle.component_cycle.specs.declared.search.State.{State};
-ghost use Rattle.component_cycle.specs.declared.search.Mark.{Mark};
+ghost use Rattle.component_cycle.specs.declared.search.CycleSearch.{CycleSearch};
+ghost use Rattle.component_cycle.specs.declared.search.VisitMark.{VisitMark};
 ghost use Rattle.common_laws.specs.Graphs.{IsGraph};
 ghost use Rattle.component_cycle.specs.Search.{IsSound, IsLast, HasLast, DoesNotRaise, AllReach, entered, costs, state, Lowers, IsCyclic, is_on_cycle, AreSettled, OthersStay, SeenCostNothing};
 
@@ -13,7 +13,7 @@ use std::alloc::Global;
 
 /// The state of a node.
 #[derive(Clone, Copy, Drop)]
-pub(crate) enum State {
+pub(crate) enum CycleSearch {
     Unseen,
     /// On the path, at this place.
     OnPath(usize),
@@ -23,16 +23,16 @@ pub(crate) enum State {
 
 /// The start of a group on the path, and of its targets in `waiting`.
 #[derive(Clone, Copy, Drop)]
-pub(crate) struct Mark {
+pub(crate) struct VisitMark {
     pub place: usize,
     pub waiting: usize,
 }
 
 pub(crate) struct Search {
-    pub states: List<State>,
+    pub states: List<CycleSearch>,
     pub path: List<usize>,
     pub waiting: List<usize>,
-    pub marks: List<Mark>,
+    pub marks: List<VisitMark>,
 }
 
 // Explicit, so that it is proved once: a derived one is expanded at each exit.
@@ -49,10 +49,10 @@ impl Drop for Search {
 
 impl Search {
     pub(crate) fn new(alloc: Global, nodes: usize) -> Result<Search, NoMemory>
-        ensures { IfOk result (λ s. s ≡ record { states = replicate nodes State.Unseen; path = []; waiting = []; marks = [] }) }
+        ensures { IfOk result (λ s. s ≡ record { states = replicate nodes CycleSearch.Unseen; path = []; waiting = []; marks = [] }) }
     {
         Ok(Search {
-            states: List::from_vec(vec![in alloc; State::Unseen; nodes]?),
+            states: List::from_vec(vec![in alloc; CycleSearch::Unseen; nodes]?),
             path: List::new(alloc),
             waiting: List::new(alloc),
             marks: List::new(alloc),
@@ -65,11 +65,11 @@ impl Search {
         requires count { length self.old.states ≡ length needs.now }
         ensures { OnOk result (self.new ≡ entered needs.now node self.old) }
     {
-        self.marks.push(Mark {
+        self.marks.push(VisitMark {
             place: self.path.len(),
             waiting: self.waiting.len(),
         })?;
-        self.states.set(node, State::OnPath(self.path.len()));
+        self.states.set(node, CycleSearch::OnPath(self.path.len()));
         self.path.push(node)?;
         push_all(&mut self.waiting, needs[node].as_slice())
     }
@@ -82,8 +82,8 @@ impl Search {
         requires marks { self.old.marks ≡ [] }
         ensures sound { OnOk result (IsSound needs.now self.new None) }
         ensures marks { OnOk result (self.new.marks ≡ []) }
-        ensures root { OnOk result (state self.new root ≢ State.Unseen) }
-        ensures seen { OnOk result ((v : ℕ) → state self.old v ≢ State.Unseen → state self.new v ≢ State.Unseen) }
+        ensures root { OnOk result (state self.new root ≢ CycleSearch.Unseen) }
+        ensures seen { OnOk result ((v : ℕ) → state self.old v ≢ CycleSearch.Unseen → state self.new v ≢ CycleSearch.Unseen) }
     {
         if !self.is_unseen(root) {
             return Ok(());
@@ -97,16 +97,16 @@ impl Search {
 
     fn is_unseen(&self, node: usize) -> bool
         requires { node < length self.now.states }
-        ensures { IsTrue result ↔ (state self.now node ≡ State.Unseen) }
+        ensures { IsTrue result ↔ (state self.now node ≡ CycleSearch.Unseen) }
     {
         match self.states.as_slice()[node] {
-            State::Unseen => true,
-            State::OnPath(_) => false,
-            State::Finished(_) => false,
+            CycleSearch::Unseen => true,
+            CycleSearch::OnPath(_) => false,
+            CycleSearch::Finished(_) => false,
         }
     }
 
-    fn last_mark(&self) -> Option<Mark>
+    fn last_mark(&self) -> Option<VisitMark>
         ensures { MatchOption result (self.now.marks ≡ []) (λ m. IsLast self.now.marks m) }
     {
         self.marks.as_slice().last().copied()
@@ -124,7 +124,7 @@ impl Search {
     }
 
     // Takes an edge from the last group, or settles the group if no edge is left.
-    fn step(&mut self, needs: &[List<usize>], mark: Mark) -> Result<(), NoMemory>
+    fn step(&mut self, needs: &[List<usize>], mark: VisitMark) -> Result<(), NoMemory>
         requires graph { IsGraph needs.now }
         requires sound { IsSound needs.now self.old None }
         requires mark { IsLast self.old.marks mark }
@@ -148,19 +148,19 @@ impl Search {
         ensures { OnOk result (DoesNotRaise needs.now self.old self.new) }
     {
         match self.states.as_slice()[node] {
-            State::Unseen => self.enter(needs, node),
-            State::OnPath(place) => {
+            CycleSearch::Unseen => self.enter(needs, node),
+            CycleSearch::OnPath(place) => {
                 while self.begins_behind(place) {
                     self.marks.pop();
                 }
                 Ok(())
             }
-            State::Finished(_) => Ok(()),
+            CycleSearch::Finished(_) => Ok(()),
         }
     }
 
     // Settles the last group.
-    fn close(&mut self, needs: &[List<usize>], mark: Mark)
+    fn close(&mut self, needs: &[List<usize>], mark: VisitMark)
         requires sound { IsSound needs.now self.old None }
         requires mark { IsLast self.old.marks mark }
         requires none { length self.old.waiting ≤ mark.waiting }
@@ -192,13 +192,13 @@ fn behind(path: &List<usize>, place: usize) -> &[usize]
     &path.as_slice()[place..]
 }
 
-fn is_on_cycle(state: State) -> bool
+fn is_on_cycle(state: CycleSearch) -> bool
     ensures { result ≡ is_on_cycle state }
 {
     match state {
-        State::Unseen => false,
-        State::OnPath(_) => false,
-        State::Finished(on_cycle) => on_cycle,
+        CycleSearch::Unseen => false,
+        CycleSearch::OnPath(_) => false,
+        CycleSearch::Finished(on_cycle) => on_cycle,
     }
 }
 
@@ -213,7 +213,7 @@ fn is_cyclic(needs: &[List<usize>], group: &[usize]) -> bool
     }
 }
 
-fn finish_all(states: &mut List<State>, nodes: &[usize], on_cycle: bool)
+fn finish_all(states: &mut List<CycleSearch>, nodes: &[usize], on_cycle: bool)
     requires inside { All (λ v. v < length states.old) nodes.now }
     ensures count { length states.new ≡ length states.old }
     ensures settled { AreSettled nodes.now on_cycle states.new }
@@ -221,7 +221,7 @@ fn finish_all(states: &mut List<State>, nodes: &[usize], on_cycle: bool)
     ensures costs { SeenCostNothing nodes.now states.old states.new }
 {
     for node in nodes {
-        states.set(*node, State::Finished(on_cycle));
+        states.set(*node, CycleSearch::Finished(on_cycle));
     }
 }
 

@@ -9,7 +9,7 @@ use Rattle.plan_types.specs.declared.condition.Cond.TheVariants.{And, rolls-And}
 use Rattle.plan_types.specs.declared.condition.Env.{Env}
 use Rattle.plan_types.specs.declared.conditions.Row.{Row}
 use Rattle.conditionals.specs.Count.{numbers_of}
-use Rattle.conditionals.specs.declared.count.Numbers.{Numbers}
+use Rattle.conditionals.specs.declared.count.PathCounts.{PathCounts}
 use Rattle.conditionals.specs.Paths.{clean_paths, holds, is_wanted, paths_of}
 use Rattle.conditionals.specs.Value.{Flags, and_then, value, value_step}
 use Rattle.conditionals.specs.declared.value.Tri.{Tri}
@@ -54,7 +54,7 @@ within-next env [] more (first ∷ items) cond all = absurd all
 within-next env (c ∷ conds) more [] cond all = absurd all
 within-next env (c ∷ conds) more (first ∷ items) cond all = let next = within-next env conds more items cond all.1 in omega (arith, next)
 
-pub counted-next : (env : Env) (conds more : List Cond) (items : List Facts) (cond : Cond) (numbers : Numbers) → AreKnown env conds items → numbers ≡ get_or (map (numbers_of env) (conds ++ cond ∷ more)) (length items) numbers → numbers ≡ numbers_of env cond
+pub counted-next : (env : Env) (conds more : List Cond) (items : List Facts) (cond : Cond) (numbers : PathCounts) → AreKnown env conds items → numbers ≡ get_or (map (numbers_of env) (conds ++ cond ∷ more)) (length items) numbers → numbers ≡ numbers_of env cond
 counted-next env [] more [] cond numbers all is = is
 counted-next env [] more (first ∷ items) cond numbers all is = absurd all
 counted-next env (c ∷ conds) more [] cond numbers all is = absurd all

@@ -10,7 +10,7 @@ ghost use Rattle.condition_outlook.specs.Known.{AreKnown, ArePathsOf, IsKnown, A
 ghost use Rattle.condition_outlook.specs.Settled.{AreSet};
 
 use crate::settled::FlagSettings;
-use conditionals::{MOST_PATHS, Numbers, paths};
+use conditionals::{MOST_PATHS, PathCounts, paths};
 use plan_types::{Conditions, Env, FlagSet, List, NoMemory, Row};
 use std::alloc::Global;
 
@@ -38,7 +38,7 @@ impl Facts {
 pub fn known_of(
     alloc: Global,
     conds: &Conditions,
-    numbers: &[Numbers],
+    numbers: &[PathCounts],
     all: &[Facts],
     row: &Row,
     env: &Env,
@@ -165,7 +165,7 @@ fn allows_some(settled: &FlagSettings, paths: &[List<FlagSet>]) -> bool
 fn own_paths(
     alloc: Global,
     conds: &Conditions,
-    numbers: &[Numbers],
+    numbers: &[PathCounts],
     place: usize,
     env: &Env,
 ) -> Result<Option<List<List<FlagSet>>>, NoMemory>

@@ -19,8 +19,8 @@ use Rattle.text_grammar.proofs.Spaces.{Never, starts_same, cut}
 use Rattle.text_grammar.proofs.Closings.{Instead, instead, Closed, closed, closing, closed_reads, closed_read, closed_fault}
 use Rattle.text_grammar.proofs.Letters.{Reads, Pair, Passing, passing, pair_due, pair_led}
 use Rattle.text_grammar.proofs.Marks.{led_at}
-use Rattle.condition_text.specs.declared.name.Form.{Form}
-use Rattle.condition_text.specs.declared.name.Form.TheVariants.{Flag, Part, Compiler}
+use Rattle.condition_text.specs.declared.name.NameForm.{NameForm}
+use Rattle.condition_text.specs.declared.name.NameForm.TheVariants.{Flag, Part, Compiler}
 use Rattle.condition_text.specs.Forms.{first_of, part_of}
 use Rattle.condition_text.specs.Reading.{split, name_at, named_at}
 use Rattle.condition_text.proofs.CondKind.{no_bytes, cond_kind, is_open, apart, no_digit_stands}
@@ -226,15 +226,15 @@ pub ascii_all : (test : ℕ → Bool) → ((b : ℕ) → test b ≡ true → b <
 ascii_all test small [] h = IsAscii-nil
 ascii_all test small (b ∷ bs) h = let p = and_parts (test b) (list_all test bs) h in IsAscii-cons b bs (small b p.0) (ascii_all test small bs p.1)
 
-part_small : (form : Form) (b : ℕ) → part_of form b ≡ true → b < 128
+part_small : (form : NameForm) (b : ℕ) → part_of form b ≡ true → b < 128
 part_small Flag b h = grind (arith, nat_tests)
 part_small Part b h = grind (arith, nat_tests)
 part_small Compiler b h = grind (arith, nat_tests)
 
-pub name_ascii : (form : Form) (text x rest : List ℕ) → name_at (first_of form) (part_of form) text ≡ Ok (x, rest) → IsAscii x
+pub name_ascii : (form : NameForm) (text x rest : List ℕ) → name_at (first_of form) (part_of form) text ≡ Ok (x, rest) → IsAscii x
 name_ascii form text x rest h = ascii_all (part_of form) (part_small form) x (run_all (first_of form) (part_of form) text x rest h)
 
-module _ {A : Type 0} (view : A → List ℕ × List ℕ) (form : Form) (text : List ℕ) where
+module _ {A : Type 0} (view : A → List ℕ × List ℕ) (form : NameForm) (text : List ℕ) where
   pub name_within : (r : Result A TextFault) → Gives view r (name_at (first_of form) (part_of form) text) → IfOk r (λ p. length (view p).1 < length text)
   name_within (Ok p) h = run_shorter (first_of form) (part_of form) text (view p).0 (view p).1 h
   name_within (Err fault) h = tt

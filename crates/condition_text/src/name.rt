@@ -12,20 +12,20 @@ use text_grammar::{byte_after, skip_blanks};
 
 /// The form of a name: of a flag, of a system or processor, or of a compiler.
 #[derive(Clone, Copy)]
-pub enum Form {
+pub enum NameForm {
     Flag,
     Part,
     Compiler,
 }
 
-impl Form {
+impl NameForm {
     fn begins(self, byte: u8) -> bool
         ensures { result ≡ first_of self byte }
     {
         match self {
-            Form::Flag => byte != b'-',
-            Form::Part => is_component_byte(byte),
-            Form::Compiler => byte.is_ascii_alphanumeric(),
+            NameForm::Flag => byte != b'-',
+            NameForm::Part => is_component_byte(byte),
+            NameForm::Compiler => byte.is_ascii_alphanumeric(),
         }
     }
 
@@ -33,20 +33,20 @@ impl Form {
         ensures { result ≡ part_of self byte }
     {
         match self {
-            Form::Flag => is_component_byte(byte),
-            Form::Part => is_component_byte(byte),
-            Form::Compiler => byte.is_ascii_alphanumeric(),
+            NameForm::Flag => is_component_byte(byte),
+            NameForm::Part => is_component_byte(byte),
+            NameForm::Compiler => byte.is_ascii_alphanumeric(),
         }
     }
 }
 
 fn is_component_byte(byte: u8) -> bool
-    ensures { result ≡ part_of Form.Part byte }
+    ensures { result ≡ part_of NameForm.Part byte }
 {
     byte.is_ascii_alphanumeric() || byte == b'-' || byte == b'_'
 }
 
-fn run_len(form: Form, text: &[u8]) -> usize
+fn run_len(form: NameForm, text: &[u8]) -> usize
     ensures count { result ≡ prefix_len (part_of form) text.now }
     ensures within { result ≤ length text.now }
 {
@@ -54,7 +54,7 @@ fn run_len(form: Form, text: &[u8]) -> usize
 }
 
 // The longest run of name bytes, and the rest.
-fn split(form: Form, text: &[u8]) -> (&[u8], &[u8])
+fn split(form: NameForm, text: &[u8]) -> (&[u8], &[u8])
     ensures { (result.0.now, result.1.now) ≡ split (part_of form) text.now }
 {
     text.split_at(run_len(form, text))
@@ -67,7 +67,7 @@ pub fn bad_cond() -> TextFault
 }
 
 /// The name at the start of a text, and the rest.
-pub fn name_at(form: Form, text: &[u8]) -> Result<(&[u8], &[u8]), TextFault>
+pub fn name_at(form: NameForm, text: &[u8]) -> Result<(&[u8], &[u8]), TextFault>
     ensures gives { Gives (λ p. (p.0.now, p.1.now)) result (name_at (first_of form) (part_of form) text.now) }
     ensures within { IfOk result (λ p. length p.1.now < length text.now) }
     ensures ascii { IfOk result (λ p. IsAscii p.0.now) }
@@ -76,7 +76,7 @@ pub fn name_at(form: Form, text: &[u8]) -> Result<(&[u8], &[u8]), TextFault>
 }
 
 #[tactic(auto, unfolding(crate::specs::Reading::name_at))]
-fn front_name(form: Form, text: &[u8]) -> Result<(&[u8], &[u8]), TextFault>
+fn front_name(form: NameForm, text: &[u8]) -> Result<(&[u8], &[u8]), TextFault>
     ensures { Gives (λ p. (p.0.now, p.1.now)) result (name_at (first_of form) (part_of form) text.now) }
 {
     match text {
@@ -97,7 +97,7 @@ pub fn closed(text: &[u8]) -> Result<&[u8], TextFault>
 }
 
 /// A name in parentheses, and the rest.
-pub fn named_at(form: Form, text: &[u8]) -> Result<(&[u8], &[u8]), TextFault>
+pub fn named_at(form: NameForm, text: &[u8]) -> Result<(&[u8], &[u8]), TextFault>
     ensures gives { Gives (λ p. (p.0.now, p.1.now)) result (named_at (first_of form) (part_of form) text.now) }
     ensures within { IfOk result (λ p. length p.1.now < length text.now) }
     ensures ascii { IfOk result (λ p. IsAscii p.0.now) }

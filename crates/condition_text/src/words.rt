@@ -6,7 +6,7 @@ ghost use Rattle.plan_types.specs.declared.range.Range.{Range};
 ghost use Rattle.text_grammar.specs.Reading.{Gives, skip_blanks, byte_due, letter_after, word_due};
 ghost use Rattle.condition_text.specs.Reading.{bad, cond_cause, tail_at, cond_tail, compiler_at, flag_at, os_at, arch_at, impl_at, from_a, from_o, after_f, from_f, atom_at};
 
-use crate::name::{Form, bad_cond, lowered, name_at, named_at};
+use crate::name::{NameForm, bad_cond, lowered, name_at, named_at};
 use conditionals::system_of;
 use plan_types::{Cause, Cond, Range, Spec, Text, TextFault};
 use std::alloc::Global;
@@ -112,7 +112,7 @@ fn compiler_at(alloc: Global, spec: Spec, text: &[u8]) -> Result<(Text, Range, &
     ensures gives { Gives (λ p. ((p.0, p.1), p.2.now)) result (compiler_at (cond_tail spec 64) text.now) }
     ensures within { IfOk result (λ p. length p.2.now < length text.now) }
 {
-    let (name, rest) = name_at(Form::Compiler, text)?;
+    let (name, rest) = name_at(NameForm::Compiler, text)?;
     let (range, rest) = cond_tail(alloc, spec, rest)?;
     let name = lowered(alloc, name)?;
     Ok((name, range, rest))
@@ -135,7 +135,7 @@ fn flag_at(alloc: Global, text: &[u8]) -> Result<(Cond, &[u8]), TextFault>
     ensures gives { Gives (λ p. (p.0, p.1.now)) result (flag_at text.now) }
     ensures within { IfOk result (λ p. length p.1.now < length text.now) }
 {
-    let (name, rest) = named_at(Form::Flag, text)?;
+    let (name, rest) = named_at(NameForm::Flag, text)?;
     Ok((Cond::Flag(lowered(alloc, name)?), rest))
 }
 
@@ -143,7 +143,7 @@ fn os_at(alloc: Global, text: &[u8]) -> Result<(Cond, &[u8]), TextFault>
     ensures gives { Gives (λ p. (p.0, p.1.now)) result (os_at text.now) }
     ensures within { IfOk result (λ p. length p.1.now < length text.now) }
 {
-    let (name, rest) = named_at(Form::Part, text)?;
+    let (name, rest) = named_at(NameForm::Part, text)?;
     let name = lowered(alloc, name)?;
     Ok((Cond::Os(system_of(alloc, name)?), rest))
 }
@@ -152,7 +152,7 @@ fn arch_at(alloc: Global, text: &[u8]) -> Result<(Cond, &[u8]), TextFault>
     ensures gives { Gives (λ p. (p.0, p.1.now)) result (arch_at text.now) }
     ensures within { IfOk result (λ p. length p.1.now < length text.now) }
 {
-    let (name, rest) = named_at(Form::Part, text)?;
+    let (name, rest) = named_at(NameForm::Part, text)?;
     Ok((Cond::Arch(lowered(alloc, name)?), rest))
 }
 

@@ -13,7 +13,7 @@ use Rattle.common_laws.specs.Small.{capped, capped-add}
 use Rattle.conditionals.specs.Count.{numbers_of}
 use Rattle.conditionals.specs.Paths.{Path, paths_of, paths_step}
 use Rattle.conditionals.specs.Table.{numbers_at, numbers_of_not, numbers_of_and, numbers_of_row}
-use Rattle.conditionals.specs.declared.count.Numbers.{Numbers}
+use Rattle.conditionals.specs.declared.count.PathCounts.{PathCounts}
 use Rattle.conditionals.proofs.Layers.{paths_Not}
 use Rattle.conditionals.proofs.Counting.{capped_product, number, numbers_And}
 
@@ -26,7 +26,7 @@ get-map f (y ∷ xs) zero x = refl
 get-map f (y ∷ xs) (suc i) x = get-map f xs i x
 
 module _ (env : Env) where
-  abbrev all : List Cond → List Numbers
+  abbrev all : List Cond → List PathCounts
   all conds = map (numbers_of env) conds
 
   abbrev Paths : Type 0

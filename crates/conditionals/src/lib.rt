@@ -12,7 +12,7 @@ mod path;
 mod table;
 mod value;
 
-pub use count::{Numbers, count_paths, numbers_of};
+pub use count::{PathCounts, count_paths, numbers_of};
 pub use environment::system_of;
 pub use laws::{cleaned_before_joined, no_two_paths_hold, some_path_holds};
 pub use path::{MOST_PATHS, joined_paths, paths};

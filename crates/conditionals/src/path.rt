@@ -5,7 +5,7 @@ ghost use Rattle.conditionals.specs.Paths.{paths_of, fixed, followed, clean_path
 ghost use Rattle.conditionals.specs.Steps.{lists_of, swap_lists, join_and, join_or, finish, needed, IsSmaller, left_of_and, left_of_or, asked};
 
 use crate::clean::clean;
-use crate::count::{Numbers, numbers_of};
+use crate::count::{PathCounts, numbers_of};
 use crate::environment::{is_compiler, is_processor, is_system};
 use plan_types::{Cond, Env, FlagSet, List, NoMemory, Text};
 use std::alloc::Global;
@@ -15,24 +15,24 @@ pub const MOST_PATHS: u64 = 256;
 
 /// The paths of a condition for true and for false.
 #[derive(Drop)]
-pub struct Lists {
+pub struct BothPaths {
     pub yes: List<List<FlagSet>>,
     pub no: List<List<FlagSet>>,
 }
 
 /// Which paths are needed.
 #[derive(Clone, Copy)]
-pub struct Need {
+pub struct WantedPaths {
     pub yes: bool,
     pub no: bool,
 }
 
 /// A pending step from the paths of a left side to those of the whole: the right side, and which paths are needed.
 #[derive(Clone, Copy)]
-pub enum Step<'a> {
+pub enum PathStep<'a> {
     Not,
-    And(&'a Cond, Need),
-    Or(&'a Cond, Need),
+    And(&'a Cond, WantedPaths),
+    Or(&'a Cond, WantedPaths),
 }
 
 /// The paths of a condition for true or false. Contradictory paths (a flag on and off) are left out, and each path has
@@ -46,7 +46,7 @@ pub fn paths(
     requires { length (paths_of env.now cond.now want) ≤ 256 }
     ensures { IfOk result (λ paths. paths ≡ clean_paths (paths_of env.now cond.now want)) }
 {
-    let need = Need {
+    let need = WantedPaths {
         yes: want,
         no: !want,
     };
@@ -71,19 +71,19 @@ pub fn joined_paths(
     clean(alloc, paths)
 }
 
-fn build(alloc: Global, cond: &Cond, env: &Env, need: Need) -> Result<Lists, NoMemory>
+fn build(alloc: Global, cond: &Cond, env: &Env, need: WantedPaths) -> Result<BothPaths, NoMemory>
     ensures { IfOk result (λ lists. lists ≡ lists_of env.now cond.now need) }
 {
     let mut steps = Vec::new(alloc);
     let mut lists = first(alloc, &mut steps, cond, env, need)?;
     while let Some(step) = steps.pop() {
         match step {
-            Step::Not => lists = swapped(lists),
-            Step::And(right, need) => {
+            PathStep::Not => lists = swapped(lists),
+            PathStep::And(right, need) => {
                 let right = build(alloc, right, env, asked(need, &lists.yes))?;
                 lists = and(alloc, lists, right, need)?;
             }
-            Step::Or(right, need) => {
+            PathStep::Or(right, need) => {
                 let right = build(alloc, right, env, asked(need, &lists.no))?;
                 lists = or(alloc, lists, right, need)?;
             }
@@ -96,11 +96,11 @@ fn build(alloc: Global, cond: &Cond, env: &Env, need: Need) -> Result<Lists, NoM
 // that is joined only with empty ones isn't built: it may be longer than any that is needed.
 fn first<'a>(
     alloc: Global,
-    steps: &mut Vec<Step<'a>>,
+    steps: &mut Vec<PathStep<'a>>,
     cond: &'a Cond,
     env: &Env,
-    need: Need,
-) -> Result<Lists, NoMemory>
+    need: WantedPaths,
+) -> Result<BothPaths, NoMemory>
     requires { steps.old.items ≡ [] }
     ensures lists { IfOk result (λ lists.
         finish env.now steps.new.items lists ≡ lists_of env.now cond.now need) }
@@ -119,20 +119,20 @@ fn first<'a>(
                 return test(alloc, is_compiler(env, name, range), need);
             }
             Cond::Not(inner) => {
-                steps.push(Step::Not)?;
-                need = Need {
+                steps.push(PathStep::Not)?;
+                need = WantedPaths {
                     yes: need.no,
                     no: need.yes,
                 };
                 left = inner.get();
             }
             Cond::And(l, r) => {
-                steps.push(Step::And(r.get(), need))?;
+                steps.push(PathStep::And(r.get(), need))?;
                 need = left_of_and(need, numbers_of(r.get(), env));
                 left = l.get();
             }
             Cond::Or(l, r) => {
-                steps.push(Step::Or(r.get(), need))?;
+                steps.push(PathStep::Or(r.get(), need))?;
                 need = left_of_or(need, numbers_of(r.get(), env));
                 left = l.get();
             }
@@ -140,29 +140,29 @@ fn first<'a>(
     }
 }
 
-fn left_of_and(need: Need, right: Numbers) -> Need
+fn left_of_and(need: WantedPaths, right: PathCounts) -> WantedPaths
     ensures { result ≡ left_of_and need (nat_lt 0 right.yes) (nat_lt 0 right.no) }
 {
-    Need {
+    WantedPaths {
         yes: (need.yes && 0 < right.yes) || (need.no && 0 < right.no),
         no: need.no,
     }
 }
 
-fn left_of_or(need: Need, right: Numbers) -> Need
+fn left_of_or(need: WantedPaths, right: PathCounts) -> WantedPaths
     ensures { result ≡ left_of_or need (nat_lt 0 right.yes) (nat_lt 0 right.no) }
 {
-    Need {
+    WantedPaths {
         yes: need.yes,
         no: (need.yes && 0 < right.yes) || (need.no && 0 < right.no),
     }
 }
 
-fn asked(need: Need, left: &List<List<FlagSet>>) -> Need
+fn asked(need: WantedPaths, left: &List<List<FlagSet>>) -> WantedPaths
     ensures { result ≡ asked need left.now }
 {
     match left.as_slice() {
-        [] => Need {
+        [] => WantedPaths {
             yes: false,
             no: false,
         },
@@ -170,7 +170,7 @@ fn asked(need: Need, left: &List<List<FlagSet>>) -> Need
     }
 }
 
-fn test(alloc: Global, is_true: bool, need: Need) -> Result<Lists, NoMemory>
+fn test(alloc: Global, is_true: bool, need: WantedPaths) -> Result<BothPaths, NoMemory>
     ensures { IfOk result (λ lists. lists ≡ record {
       yes = needed need.yes (fixed is_true true);
       no = needed need.no (fixed is_true false);
@@ -184,10 +184,10 @@ fn test(alloc: Global, is_true: bool, need: Need) -> Result<Lists, NoMemory>
     if need.no && !is_true {
         no.push(List::new(alloc))?;
     }
-    Ok(Lists { yes, no })
+    Ok(BothPaths { yes, no })
 }
 
-fn flag(alloc: Global, name: &Text, need: Need) -> Result<Lists, NoMemory>
+fn flag(alloc: Global, name: &Text, need: WantedPaths) -> Result<BothPaths, NoMemory>
     ensures { IfOk result (λ lists. lists ≡ record {
       yes = needed need.yes ((sets name.now true ∷ []) ∷ []);
       no = needed need.no ((sets name.now false ∷ []) ∷ []);
@@ -195,7 +195,7 @@ fn flag(alloc: Global, name: &Text, need: Need) -> Result<Lists, NoMemory>
 {
     let yes = setting(alloc, name, true, need.yes)?;
     let no = setting(alloc, name, false, need.no)?;
-    Ok(Lists { yes, no })
+    Ok(BothPaths { yes, no })
 }
 
 fn setting(
@@ -216,17 +216,17 @@ fn setting(
     Ok(paths)
 }
 
-fn swapped(lists: Lists) -> Lists
+fn swapped(lists: BothPaths) -> BothPaths
     ensures { result ≡ swap_lists lists }
 {
-    let Lists { yes, no } = lists;
-    Lists { yes: no, no: yes }
+    let BothPaths { yes, no } = lists;
+    BothPaths { yes: no, no: yes }
 }
 
-fn and(alloc: Global, left: Lists, right: Lists, need: Need) -> Result<Lists, NoMemory>
+fn and(alloc: Global, left: BothPaths, right: BothPaths, need: WantedPaths) -> Result<BothPaths, NoMemory>
     ensures { IfOk result (λ lists. lists ≡ join_and need left right) }
 {
-    let Lists { yes, no } = left;
+    let BothPaths { yes, no } = left;
     let no = if need.no {
         joined(alloc, no, &yes, &right.no)?
     } else {
@@ -237,13 +237,13 @@ fn and(alloc: Global, left: Lists, right: Lists, need: Need) -> Result<Lists, No
     } else {
         List::new(alloc)
     };
-    Ok(Lists { yes, no })
+    Ok(BothPaths { yes, no })
 }
 
-fn or(alloc: Global, left: Lists, right: Lists, need: Need) -> Result<Lists, NoMemory>
+fn or(alloc: Global, left: BothPaths, right: BothPaths, need: WantedPaths) -> Result<BothPaths, NoMemory>
     ensures { IfOk result (λ lists. lists ≡ join_or need left right) }
 {
-    let Lists { yes, no } = left;
+    let BothPaths { yes, no } = left;
     let yes = if need.yes {
         joined(alloc, yes, &no, &right.yes)?
     } else {
@@ -254,7 +254,7 @@ fn or(alloc: Global, left: Lists, right: Lists, need: Need) -> Result<Lists, NoM
     } else {
         List::new(alloc)
     };
-    Ok(Lists { yes, no })
+    Ok(BothPaths { yes, no })
 }
 
 // Each path of the first followed by each of the second. A path is moved for its last continuation and copied for the

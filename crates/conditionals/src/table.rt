@@ -3,12 +3,12 @@ ghost use Rattle.std.specs.Prelude.{◌≡◌, map, IfOk};
 ghost use Rattle.conditionals.specs.Count.{numbers_of};
 ghost use Rattle.conditionals.specs.Table.{numbers_at, numbers_of_and, numbers_of_row};
 
-use crate::count::{Numbers, numbers_of, swapped};
+use crate::count::{PathCounts, numbers_of, swapped};
 use plan_types::{Conditions, Env, NoMemory, Row};
 use std::alloc::Global;
 
 /// The numbers of paths of each condition in a table, from those of earlier rows.
-pub fn count_all(alloc: Global, conds: &Conditions, env: &Env) -> Result<Vec<Numbers>, NoMemory>
+pub fn count_all(alloc: Global, conds: &Conditions, env: &Env) -> Result<Vec<PathCounts>, NoMemory>
     ensures { IfOk result (λ all. all.items ≡ map (numbers_of env.now) conds.now) }
 {
     let rows = conds.rows();
@@ -20,7 +20,7 @@ pub fn count_all(alloc: Global, conds: &Conditions, env: &Env) -> Result<Vec<Num
     Ok(all)
 }
 
-fn numbers_of_row(before: &[Numbers], row: &Row, env: &Env) -> Numbers
+fn numbers_of_row(before: &[PathCounts], row: &Row, env: &Env) -> PathCounts
     ensures { result ≡ numbers_of_row env.now before.now row.now }
 {
     match row {
@@ -30,20 +30,20 @@ fn numbers_of_row(before: &[Numbers], row: &Row, env: &Env) -> Numbers
     }
 }
 
-fn numbers_at(before: &[Numbers], number: usize) -> Numbers
+fn numbers_at(before: &[PathCounts], number: usize) -> PathCounts
     ensures { result ≡ numbers_at before.now number }
 {
     match before.get(number) {
         Some(numbers) => *numbers,
-        None => Numbers { yes: 1, no: 0 },
+        None => PathCounts { yes: 1, no: 0 },
     }
 }
 
-fn numbers_of_and(left: Numbers, right: Numbers) -> Numbers
+fn numbers_of_and(left: PathCounts, right: PathCounts) -> PathCounts
     ensures { result ≡ numbers_of_and left right }
 {
     let both_no = left.yes.saturating_mul(right.no);
-    Numbers {
+    PathCounts {
         yes: left.yes.saturating_mul(right.yes),
         no: left.no.saturating_add(both_no),
     }

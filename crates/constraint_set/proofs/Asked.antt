@@ -16,7 +16,7 @@ use Rattle.constraint_set.specs.Bars.{is_number, is_on, is_value, covers, applie
 use Rattle.constraint_set.specs.NumberedScope.{setup_of, numbered, numbered_covers}
 use Rattle.constraint_set.specs.Rules.{rule_bars, is_set, rules_of, rules_on, settings_as, settings_of, settings_on}
 use Rattle.constraint_set.specs.declared.numbered_scope.NumberedScope.{NumberedScope}
-use Rattle.constraint_set.specs.declared.rules.Setting.{Setting}
+use Rattle.constraint_set.specs.declared.rules.PartRule.{PartRule}
 use Rattle.std.proofs.Math.Bool.{and-false, or-false}
 use Rattle.std.proofs.Math.Bool.{and-or_distrib_left}
 
@@ -95,20 +95,20 @@ settings-ask names v on (c ∷ cs) =
 
 -- whatever the scope
 
-named-values : (scope : NumberedScope) (on : Bool) (values : List Bool) → list_any (λ (s : Setting). is_value s.on on) (settings_as scope values) ≡ list_any (λ value. is_value value on) values
+named-values : (scope : NumberedScope) (on : Bool) (values : List Bool) → list_any (λ (s : PartRule). is_value s.on on) (settings_as scope values) ≡ list_any (λ value. is_value value on) values
 named-values scope on [] = refl
 named-values scope on (value ∷ values) = ap (λ b. is_value value on || b) (named-values scope on values)
 
-one-named : (names : NameTable) (v : Var) (on : Bool) (c : Constraint) → list_any (λ (s : Setting). is_value s.on on) (settings_on names v.«package» v.part c) ≡ (is_on names c v.«package» && requires_value names c.what v.part on)
+one-named : (names : NameTable) (v : Var) (on : Bool) (c : Constraint) → list_any (λ (s : PartRule). is_value s.on on) (settings_on names v.«package» v.part c) ≡ (is_on names c v.«package» && requires_value names c.what v.part on)
 one-named names v on c =
-    elim (is_on names c v.«package») as (λ b. list_any (λ (s : Setting). is_value s.on on) (if b then settings_of names v.part c else []) ≡ (b && requires_value names c.what v.part on)) [
+    elim (is_on names c v.«package») as (λ b. list_any (λ (s : PartRule). is_value s.on on) (if b then settings_of names v.part c else []) ≡ (b && requires_value names c.what v.part on)) [
       | true ↦ named-values (numbered names c.scope) on (values_of names c.what v.part)
       | false ↦ refl
     ]
 
-pub settings-name : (names : NameTable) (v : Var) (on : Bool) (constraints : List Constraint) → list_any (λ (s : Setting). is_value s.on on) (flat_map (settings_on names v.«package» v.part) constraints) ≡ list_any (λ c. is_on names c v.«package» && requires_value names c.what v.part on) constraints
+pub settings-name : (names : NameTable) (v : Var) (on : Bool) (constraints : List Constraint) → list_any (λ (s : PartRule). is_value s.on on) (flat_map (settings_on names v.«package» v.part) constraints) ≡ list_any (λ c. is_on names c v.«package» && requires_value names c.what v.part on) constraints
 settings-name names v on [] = refl
 settings-name names v on (c ∷ cs) =
-    list_any-append (λ (s : Setting). is_value s.on on) (settings_on names v.«package» v.part c) (flat_map (settings_on names v.«package» v.part) cs)
-    ∙ ap (λ b. b || list_any (λ (s : Setting). is_value s.on on) (flat_map (settings_on names v.«package» v.part) cs)) (one-named names v on c)
+    list_any-append (λ (s : PartRule). is_value s.on on) (settings_on names v.«package» v.part c) (flat_map (settings_on names v.«package» v.part) cs)
+    ∙ ap (λ b. b || list_any (λ (s : PartRule). is_value s.on on) (flat_map (settings_on names v.«package» v.part) cs)) (one-named names v on c)
     ∙ ap (λ b. (is_on names c v.«package» && requires_value names c.what v.part on) || b) (settings-name names v on cs)

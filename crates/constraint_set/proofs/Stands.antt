@@ -6,7 +6,7 @@ use Rattle.plan_types.specs.declared.project.Project.{Project}
 use Rattle.qualified_goals.specs.declared.variable.Var.{Var}
 use Rattle.qualified_goals.specs.Names.{NameTable, is_listed}
 use Rattle.constraint_set.specs.declared.constraints.Constraints.{Constraints}
-use Rattle.constraint_set.specs.declared.rules.Setting.{Setting}
+use Rattle.constraint_set.specs.declared.rules.PartRule.{PartRule}
 use Rattle.constraint_set.specs.Bars.{requires_value, bars, bars_part, boot_libraries, excludes, applies, is_unit, is_value, names_flag, requires_stanza}
 use Rattle.keyed_lists.specs.Lists.{items_at}
 use Rattle.constraint_set.specs.Rules.{is_set, rule_bars, settings_at}
@@ -26,5 +26,5 @@ module _ (kept : Constraints) (project : Project) (names : NameTable) (stands : 
       ap (λ b. b || (wanted && not on)) (h ∙ ap (list_any (is_set v.qual (not on))) (stands.rules_are.parts_are v.«package» v.part) ∙ settings-ask names v (not on) project.constraints)
       ∙ ap (λ b. list_any (λ c. applies names c v && requires_value names c.what v.part (not on)) project.constraints || (b && not on)) (k ∙ ap (λ b. requires_stanza b kept.benchmarks v.part) stands.tests_are ∙ ap (λ b. requires_stanza project.tests b v.part) stands.benchmarks_are)
 
-  pub named-is : (on named : Bool) → named ≡ list_any (λ (s : Setting). is_value s.on on) (settings_at kept.rules.parts v.«package» v.part) → named ≡ names_flag project names v on
-  named-is on named h = h ∙ ap (list_any (λ (s : Setting). is_value s.on on)) (stands.rules_are.parts_are v.«package» v.part) ∙ settings-name names v on project.constraints
+  pub named-is : (on named : Bool) → named ≡ list_any (λ (s : PartRule). is_value s.on on) (settings_at kept.rules.parts v.«package» v.part) → named ≡ names_flag project names v on
+  named-is on named h = h ∙ ap (list_any (λ (s : PartRule). is_value s.on on)) (stands.rules_are.parts_are v.«package» v.part) ∙ settings-name names v on project.constraints

@@ -17,7 +17,7 @@ use Rattle.constraint_set.specs.declared.numbered_scope.NumberedScope.{NumberedS
 use Rattle.constraint_set.specs.declared.rules.Requirement.{Requirement}
 use Rattle.constraint_set.specs.declared.rules.Requirement.TheVariants.{Range, Installed, Source}
 use Rattle.constraint_set.specs.declared.rules.Rule.{Rule}
-use Rattle.constraint_set.specs.declared.rules.Setting.{Setting}
+use Rattle.constraint_set.specs.declared.rules.PartRule.{PartRule}
 use Rattle.constraint_set.specs.declared.rules.PartOf.{PartOf}
 use Rattle.constraint_set.specs.declared.rules.Rules.{Rules}
 
@@ -32,7 +32,7 @@ abbrev pub rule_bars : Qual → Instance → Rule → Bool
 rule_bars qual i rule = numbered_covers rule.scope qual && excluded rule.wanted i
 
 -- whether a setting requires a value under a qualifier
-abbrev pub is_set : Qual → Bool → Setting → Bool
+abbrev pub is_set : Qual → Bool → PartRule → Bool
 is_set qual on setting = numbered_covers setting.scope qual && is_value setting.on on
 
 -- whether two parts are equal
@@ -59,7 +59,7 @@ abbrev pub is_part_of : PartOf → PartOf → Bool
 is_part_of a b = nat_eq a.«package» b.«package» && is_part a.part b.part
 
 -- the settings of a part of a package
-abbrev pub settings_at : {S : Type 0} → IndexMap PartOf (List Setting) S → ℕ → Part → List Setting
+abbrev pub settings_at : {S : Type 0} → IndexMap PartOf (List PartRule) S → ℕ → Part → List PartRule
 settings_at parts p part = items_at is_part_of parts (record { «package» = p; part = part })
 
 -- what a constraint requires of its package
@@ -76,7 +76,7 @@ abbrev pub rules_as : NumberedScope → List Requirement → List Rule
 rules_as scope wanted = map (λ w. record { scope = scope; wanted = w }) wanted
 
 -- these values as settings of one scope
-abbrev pub settings_as : NumberedScope → List Bool → List Setting
+abbrev pub settings_as : NumberedScope → List Bool → List PartRule
 settings_as scope values = map (λ on. record { scope = scope; on = on }) values
 
 -- the rules that a constraint makes for its package
@@ -84,7 +84,7 @@ abbrev pub rules_of : NameTable → Constraint → List Rule
 rules_of names c = rules_as (numbered names c.scope) (requirement_of c.what)
 
 -- the settings that a constraint makes for a part of its package
-abbrev pub settings_of : NameTable → Part → Constraint → List Setting
+abbrev pub settings_of : NameTable → Part → Constraint → List PartRule
 settings_of names part c = settings_as (numbered names c.scope) (values_of names c.what part)
 
 -- the rules that a constraint makes for a given package
@@ -92,7 +92,7 @@ abbrev pub rules_on : NameTable → ℕ → Constraint → List Rule
 rules_on names p c = if is_on names c p then rules_of names c else []
 
 -- the settings that a constraint makes for a part of a given package
-abbrev pub settings_on : NameTable → ℕ → Part → Constraint → List Setting
+abbrev pub settings_on : NameTable → ℕ → Part → Constraint → List PartRule
 settings_on names p part c = if is_on names c p then settings_of names part c else []
 
 -- these items for one package, none for others
@@ -100,7 +100,7 @@ abbrev pub at_package : {X : Type 0} → ℕ → List X → ℕ → List X
 at_package «package» items p = if nat_eq «package» p then items else []
 
 -- one setting for one part of one package, none for others
-abbrev pub at_part : ℕ → Part → Setting → ℕ → Part → List Setting
+abbrev pub at_part : ℕ → Part → PartRule → ℕ → Part → List PartRule
 at_part «package» part setting p other = if nat_eq «package» p && is_part part other then setting ∷ [] else []
 
 -- more rules are appended to those of each package
@@ -108,7 +108,7 @@ abbrev pub AddsRules : Rules → Rules → (ℕ → List Rule) → Type 0
 AddsRules old new more = (p : ℕ) → items_at nat_eq new.packages p ≡ items_at nat_eq old.packages p ++ more p
 
 -- more settings are appended to those of each part
-abbrev pub AddsSettings : Rules → Rules → (ℕ → Part → List Setting) → Type 0
+abbrev pub AddsSettings : Rules → Rules → (ℕ → Part → List PartRule) → Type 0
 AddsSettings old new more = (p : ℕ) (part : Part) → settings_at new.parts p part ≡ settings_at old.parts p part ++ more p part
 
 -- the kept rules and settings are those of the constraints

@@ -29,7 +29,7 @@ pub(crate) struct Rule {
 
 /// The value that a constraint requires of a part, and in which scope.
 #[derive(Clone, Copy, Debug, Drop)]
-pub(crate) struct Setting {
+pub(crate) struct PartRule {
     pub scope: NumberedScope,
     pub on: bool,
 }
@@ -45,7 +45,7 @@ pub(crate) struct PartOf {
 #[derive(Debug)]
 pub(crate) struct Rules {
     pub packages: Lists<u64, Rule>,
-    pub parts: Lists<PartOf, Setting>,
+    pub parts: Lists<PartOf, PartRule>,
 }
 
 // Explicit, so that it is proved once: a derived one is expanded at each exit.
@@ -87,7 +87,7 @@ impl Rule {
     }
 }
 
-impl Setting {
+impl PartRule {
     pub(crate) fn requires_value(&self, qual: Qual, on: bool) -> bool
         ensures { result ≡ is_set qual on self.now }
     {
@@ -187,7 +187,7 @@ impl Rules {
         ensures parts { OnOk result (AddsSettings self.old self.new (at_part «package» part (record { scope = scope; on = on }))) }
     {
         let key = PartOf { package, part };
-        let setting = Setting { scope, on };
+        let setting = PartRule { scope, on };
         push_at(alloc, &mut self.parts, key, setting)?;
         Ok(())
     }

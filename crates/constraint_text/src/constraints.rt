@@ -13,7 +13,7 @@ ghost use Rattle.entry_text.specs.Words.{run, behind as after, is_name_byte, wor
 ghost use Rattle.constraint_text.specs.Constraints.{Constraints, ConstraintsFault, Target, scope_of, required_by, asked_alone, Required, Requires};
 
 use entry_text::{
-    Row, component_text, name_at, name_run, package_text, read_each, read_entries, words,
+    EntryKind, component_text, name_at, name_run, package_text, read_each, read_entries, words,
 };
 use plan_types::{
     Cause, Constraint, FlagSet, List, NoMemory, Scope, Spec, Text, TextFault, What, is_flag_name,
@@ -38,7 +38,7 @@ pub fn read_constraints(alloc: Global, text: &[u8]) -> Result<List<Constraint>, 
 #[derive(Clone, Copy)]
 struct ConstraintRow;
 
-impl Row for ConstraintRow {
+impl EntryKind for ConstraintRow {
     ghost use Rattle.constraint_text.specs.Faults.{IsBadConstraint};
     ghost use Rattle.constraint_text.specs.Constraints.{ConstraintEntry};
 
@@ -191,7 +191,7 @@ fn required_by(word: &[u8]) -> Option<What>
 #[derive(Clone, Copy)]
 struct FlagRow;
 
-impl Row for FlagRow {
+impl EntryKind for FlagRow {
     ghost use Rattle.constraint_text.specs.Faults.{IsBadConstraint};
     ghost use Rattle.constraint_text.specs.Constraints.{Flag};
 

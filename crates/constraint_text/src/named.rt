@@ -9,7 +9,7 @@ ghost use Rattle.version_range.specs.Grammar.{Stands};
 ghost use Rattle.constraint_text.specs.Faults.{IsBadConstraint};
 ghost use Rattle.constraint_text.specs.Named.{NamedRanges, NamedFault};
 
-use entry_text::{Row, name_at, package_text, read_entries};
+use entry_text::{EntryKind, name_at, package_text, read_entries};
 use plan_types::{Cause, List, Named, Range, Spec, TextFault, is_package_name};
 use std::alloc::Global;
 use version_range::read_range;
@@ -41,7 +41,7 @@ pub fn project_range(alloc: Global, text: &[u8]) -> Result<Range, TextFault>
 #[derive(Clone, Copy)]
 struct NamedRow;
 
-impl Row for NamedRow {
+impl EntryKind for NamedRow {
     ghost use Rattle.constraint_text.specs.Faults.{IsBadConstraint};
     ghost use Rattle.constraint_text.specs.Named.{NamedEntry};
 

@@ -14,7 +14,7 @@ ghost use Rattle.constraint_text.specs.Faults.{IsBadConstraint};
 ghost use Rattle.entry_text.specs.Words.{run, behind, words};
 ghost use Rattle.constraint_text.specs.Relaxes.{Relaxes, RelaxFault, relaxing_word, is_no_colon, is_no_dash, Release, Owner, Dependency, RelaxedBy, RelaxEntry};
 
-use entry_text::{Row, package_text, read_entries, words};
+use entry_text::{EntryKind, package_text, read_entries, words};
 use plan_types::{
     Cause, List, NoMemory, Relax, RelaxOwner, Text, TextFault, Version, is_package_name,
 };
@@ -51,7 +51,7 @@ fn present(alloc: Global, each: List<Option<Relax>>) -> Result<List<Relax>, NoMe
 #[derive(Clone, Copy)]
 struct RelaxRow;
 
-impl Row for RelaxRow {
+impl EntryKind for RelaxRow {
     ghost use Rattle.constraint_text.specs.Faults.{IsBadConstraint};
     ghost use Rattle.constraint_text.specs.Relaxes.{RelaxEntry};
 

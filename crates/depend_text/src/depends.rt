@@ -6,7 +6,7 @@ ghost use Rattle.plan_types.specs.Refusal.{Refuses};
 ghost use Rattle.depend_text.specs.Depends.{Depends, DependsFault, Tools, ToolsFault};
 
 use crate::part::{executable, libraries};
-use entry_text::{Row, name_at, package_text, read_entries};
+use entry_text::{EntryKind, name_at, package_text, read_entries};
 use plan_types::{Cause, Dep, DepKind, List, Spec, Text, TextFault, is_package_name};
 use std::alloc::Global;
 use version_range::read_range;
@@ -53,7 +53,7 @@ struct Packages {
     spec: Spec,
 }
 
-impl Row for Packages {
+impl EntryKind for Packages {
     ghost use Rattle.depend_text.specs.Depends.{LibraryEntry, LibraryFault};
 
     type Item = Dep;
@@ -89,7 +89,7 @@ struct Executables {
     spec: Spec,
 }
 
-impl Row for Executables {
+impl EntryKind for Executables {
     ghost use Rattle.depend_text.specs.Depends.{ToolEntry, ToolFault};
 
     type Item = Dep;

@@ -9,7 +9,7 @@ ghost use Rattle.entry_text.specs.Words.{run, behind, is_in_braces};
 ghost use Rattle.depend_text.specs.Depends.{Library, library, NamedLibraries, Libraries, LibrariesFault, old_cause, begins_library, Executable};
 
 use entry_text::{
-    Row, are_blanks, braces_run, component_run, component_text, is_component_byte, pieces,
+    EntryKind, are_blanks, braces_run, component_run, component_text, is_component_byte, pieces,
     read_each, unblank,
 };
 use plan_types::{Cause, LibName, List, NoMemory, Spec, Text, TextFault, is_component_name};
@@ -134,7 +134,7 @@ struct Listed<'a> {
     package: &'a [u8],
 }
 
-impl<'a> Row for Listed<'a> {
+impl<'a> EntryKind for Listed<'a> {
     ghost use Rattle.std.specs.Prelude.{◌≡◌};
     ghost use Rattle.plan_types.specs.declared.refusal.Cause.TheVariants.{BadDepend};
     ghost use Rattle.plan_types.specs.declared.dependency.LibName.{LibName};

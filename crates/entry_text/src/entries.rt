@@ -10,7 +10,7 @@ use std::alloc::Global;
 use text_grammar::byte_after;
 
 /// A reader of parts of one kind, with their language and their faults.
-pub trait Row {
+pub trait EntryKind {
     type Item: Drop;
 
     ghost stands: { Self → List ℕ → Self.Item → Type 0 };
@@ -23,7 +23,7 @@ pub trait Row {
 }
 
 /// Reads the entries of a text.
-pub fn read_entries<R: Row>(alloc: Global, row: &R, text: &[u8]) -> Result<List<R::Item>, TextFault>
+pub fn read_entries<R: EntryKind>(alloc: Global, row: &R, text: &[u8]) -> Result<List<R::Item>, TextFault>
     ensures found { IfOk result (HasEntries (R.stands row.now) text.now) }
     ensures fault { IfErr result (Refuses (HasFirstFault (R.stands row.now) (R.fails row.now) text.now)) }
 {
@@ -32,7 +32,7 @@ pub fn read_entries<R: Row>(alloc: Global, row: &R, text: &[u8]) -> Result<List<
 }
 
 /// Reads parts, one by one.
-pub fn read_each<R: Row>(
+pub fn read_each<R: EntryKind>(
     alloc: Global,
     row: &R,
     parts: &[&[u8]],

@@ -7,7 +7,7 @@ mod entries;
 mod name;
 mod word;
 
-pub use entries::{Row, are_blanks, pieces, read_each, read_entries};
+pub use entries::{EntryKind, are_blanks, pieces, read_each, read_entries};
 pub use name::{
     braces_run, component_run, component_text, is_component_byte, name_at, name_run, package_text,
     unblank,

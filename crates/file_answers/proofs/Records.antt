@@ -6,14 +6,14 @@ use Rattle.text_grammar.specs.Words.{package_name, words}
 use Rattle.text_grammar.specs.declared.word.Between.TheVariants.{BlanksAndCommas}
 use Rattle.unit_record.specs.Fields.{TopField, Field, FieldSays, Say, field_word, top_fields, unit_id}
 use Rattle.unit_record.specs.Record.{IsRecord, contents, outcome}
-use Rattle.unit_record.specs.declared.field.FieldWord.{FieldWord}
-use Rattle.unit_record.specs.declared.field.FieldWord.TheVariants as fields
-use Rattle.unit_record.specs.declared.field.Said.{Said}
-use Rattle.unit_record.specs.declared.field.Said.TheVariants as said
+use Rattle.unit_record.specs.declared.field.RecordFieldWord.{RecordFieldWord}
+use Rattle.unit_record.specs.declared.field.RecordFieldWord.TheVariants as fields
+use Rattle.unit_record.specs.declared.field.RecordSaid.{RecordSaid}
+use Rattle.unit_record.specs.declared.field.RecordSaid.TheVariants as said
 use Rattle.text_answers.proofs.Readings.{version_or_none}
 use Rattle.file_answers.proofs.Trees.{some_tree}
 
-field_says : (word : FieldWord) (text : List ℕ) → (found : Said) × FieldSays word text found
+field_says : (word : RecordFieldWord) (text : List ℕ) → (found : RecordSaid) × FieldSays word text found
 field_says fields.Name text = (said.Name (package_name text), refl)
 field_says fields.Version text = let version = version_or_none text in (said.Version version.0, (version.0, version.1, refl))
 field_says fields.Id text = (said.Id (unit_id text), refl)

@@ -12,10 +12,10 @@ use Rattle.index_assembly.specs.Index.{IsIndexOf, is_extra, is_package_below, is
 use Rattle.index_assembly.specs.Order.{in_order}
 use Rattle.index_assembly.specs.Packages.{AreGathered, package_by}
 use Rattle.index_assembly.specs.Units.{AreEntriesOf}
-use Rattle.index_assembly.specs.declared.packages.Gathered.{Gathered}
+use Rattle.index_assembly.specs.declared.packages.GatheredPackages.{GatheredPackages}
 use Rattle.index_assembly.proofs.Gathering.{map_same}
 
-module _ (extra : List Named) (readings : Readings) (is_asked : Bytes → Bool) (own units : Bytes → List Entry) (locals entries : List Entry) (warnings : List Warning) (gathered : Gathered)
+module _ (extra : List Named) (readings : Readings) (is_asked : Bytes → Bool) (own units : Bytes → List Entry) (locals entries : List Entry) (warnings : List Warning) (gathered : GatheredPackages)
     (locals_are : locals ≡ local_entries readings.locals) (kept : AreEntriesOf readings.units entries)
     (owned : (name : Bytes) → own name ≡ entries_named name locals) (held : (name : Bytes) → units name ≡ entries_named name entries)
     (asked : (name : Bytes) → is_asked name ≡ is_extra extra name) (all : AreGathered is_asked own units readings.found gathered)

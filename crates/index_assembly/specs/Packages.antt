@@ -8,8 +8,8 @@ use Rattle.index_assembly.specs.Entries.{is_unit_below, release_entries}
 use Rattle.index_assembly.specs.Groups.{held}
 use Rattle.index_assembly.specs.Index.{package_from, skipped_in}
 use Rattle.index_assembly.specs.Order.{in_order}
-use Rattle.index_assembly.specs.declared.groups.Groups.{Groups}
-use Rattle.index_assembly.specs.declared.packages.Gathered.{Gathered}
+use Rattle.index_assembly.specs.declared.groups.EntriesByName.{EntriesByName}
+use Rattle.index_assembly.specs.declared.packages.GatheredPackages.{GatheredPackages}
 use Rattle.plan_types.specs.Bytes.{same_text}
 
 -- the package of a name; whether it is extra, its local entries and its units are looked up by name
@@ -22,10 +22,10 @@ abbrev pub package_with : (Bytes → Bool) → List Entry → List Entry → Fou
 package_with is_asked own units found = package_by is_asked (λ name. own) (λ name. units) found
 
 -- the entries of other names stay
-abbrev pub KeepsOthers : Bytes → Groups → Groups → Type 0
+abbrev pub KeepsOthers : Bytes → EntriesByName → EntriesByName → Type 0
 KeepsOthers name old new = (other : Bytes) → same_text name other ≡ false → held new other ≡ held old other
 
 -- the packages of these names, and their skipped files
-pub record AreGathered (is_asked : Bytes → Bool) (own units : Bytes → List Entry) (found : List FoundName) (gathered : Gathered) : Type 0 where
+pub record AreGathered (is_asked : Bytes → Bool) (own units : Bytes → List Entry) (found : List FoundName) (gathered : GatheredPackages) : Type 0 where
   pub packages : gathered.packages ≡ map (package_by is_asked own units) found
   pub skipped : gathered.skipped ≡ flat_map skipped_in found

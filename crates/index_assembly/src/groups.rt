@@ -10,24 +10,24 @@ use std::mem;
 
 /// Entries grouped by the names of their packages, in the order of insertion.
 #[derive(Debug)]
-pub(crate) struct Groups {
+pub(crate) struct EntriesByName {
     pub by_name: IndexMap<Text, List<Entry>>,
 }
 
 // Explicit, so that it is proved once: a derived one is expanded at each exit.
-impl Drop for Groups {
+impl Drop for EntriesByName {
     fn drop(self) {
-        let Groups { by_name: _by_name } = self;
+        let EntriesByName { by_name: _by_name } = self;
     }
 }
 
-impl Groups {
+impl EntriesByName {
     ghost use Rattle.index_assembly.specs.Groups.{Adds, held};
 
-    pub(crate) fn of(alloc: Global, entries: List<Entry>) -> Result<Groups, NoMemory>
+    pub(crate) fn of(alloc: Global, entries: List<Entry>) -> Result<EntriesByName, NoMemory>
         ensures { IfOk result (λ groups. (name : List ℕ) → held groups name ≡ entries_named name entries) }
     {
-        let mut groups = Groups {
+        let mut groups = EntriesByName {
             by_name: IndexMap::new(alloc),
         };
         for entry in entries.into_vec() {

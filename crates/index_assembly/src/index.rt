@@ -8,9 +8,9 @@ ghost use Rattle.index_assembly.specs.Entries.{local_entries};
 ghost use Rattle.index_assembly.specs.Index.{IsIndexOf, is_extra, ordered_index, warning_at, warnings_of};
 ghost use Rattle.plan_types.specs.Bytes.{same_text};
 
-use crate::groups::Groups;
+use crate::groups::EntriesByName;
 use crate::order::{sort_packages, sort_skipped};
-use crate::packages::{Gathered, gather, source_entry};
+use crate::packages::{GatheredPackages, gather, source_entry};
 use crate::units::entries_of;
 use index_files::{Local, Readings};
 use indexmap::IndexSet;
@@ -31,8 +31,8 @@ pub fn index_of(alloc: Global, readings: Readings, extra: &List<Named>) -> Resul
     let mut warnings = List::new(alloc);
     let local_entries = local_entries(alloc, locals, &mut warnings)?;
     let unit_entries = entries_of(alloc, units)?;
-    let locals = Groups::of(alloc, local_entries)?;
-    let units = Groups::of(alloc, unit_entries)?;
+    let locals = EntriesByName::of(alloc, local_entries)?;
+    let units = EntriesByName::of(alloc, unit_entries)?;
     let extra = extra_names(alloc, extra.as_slice())?;
     let gathered = gather(alloc, found, locals, units, &extra)?;
     in_order(gathered, warnings)
@@ -81,10 +81,10 @@ fn extra_names(alloc: Global, extra: &[Named]) -> Result<IndexSet<Text>, NoMemor
     Ok(names)
 }
 
-fn in_order(gathered: Gathered, warnings: List<Warning>) -> Result<Index, NoMemory>
+fn in_order(gathered: GatheredPackages, warnings: List<Warning>) -> Result<Index, NoMemory>
     ensures { IfOk result (λ index. index ≡ ordered_index gathered.packages gathered.skipped warnings) }
 {
-    let Gathered { packages, skipped } = gathered;
+    let GatheredPackages { packages, skipped } = gathered;
     let mut packages = packages.into_vec();
     sort_packages(&mut packages)?;
     let mut skipped = skipped.into_vec();

@@ -11,7 +11,7 @@ ghost use Rattle.index_assembly.specs.Packages.{AreGathered, KeepsOthers, packag
 ghost use Rattle.flatten.specs.Sound.{source_origin};
 ghost use Rattle.plan_types.specs.Bytes.{same_text};
 
-use crate::groups::Groups;
+use crate::groups::EntriesByName;
 use crate::order::{sort_releases, sort_units};
 use cabal_file::Source;
 use index_files::{FoundName, Judged, Release};
@@ -21,7 +21,7 @@ use std::alloc::Global;
 
 /// Packages and skipped files, both still unordered.
 #[derive(Debug, Drop)]
-pub(crate) struct Gathered {
+pub(crate) struct GatheredPackages {
     pub packages: List<Package>,
     pub skipped: List<Skipped>,
 }
@@ -30,16 +30,16 @@ pub(crate) struct Gathered {
 pub(crate) fn gather(
     alloc: Global,
     found: List<FoundName>,
-    locals: Groups,
-    units: Groups,
+    locals: EntriesByName,
+    units: EntriesByName,
     extra: &IndexSet<Text>,
-) -> Result<Gathered, NoMemory>
+) -> Result<GatheredPackages, NoMemory>
     requires { IsDistinct same_text (map (λ f. f.name) found) }
     ensures { IfOk result (AreGathered (is_listed extra.now.keys) (held locals) (held units) found) }
 {
     let mut locals = locals;
     let mut units = units;
-    let mut gathered = Gathered {
+    let mut gathered = GatheredPackages {
         packages: List::new(alloc),
         skipped: List::new(alloc),
     };
@@ -51,7 +51,7 @@ pub(crate) fn gather(
     Ok(gathered)
 }
 
-impl Gathered {
+impl GatheredPackages {
     fn add(
         &mut self,
         alloc: Global,

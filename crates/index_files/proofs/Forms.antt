@@ -16,7 +16,7 @@ use Rattle.index_files.specs.Locals.{AreLocals, FileComes, local_name, local_nam
 use Rattle.index_files.specs.OnceEach.{unless_there}
 use Rattle.index_files.specs.Readings.{AreFromFiles, IsFromFile}
 use Rattle.index_files.specs.Units.{AreUnits, IsWellFormed, RecordComes, is_well_formed, place_of, unit_id, unit_ids, unit_path, with_record}
-use Rattle.index_files.specs.declared.file.File.{File}
+use Rattle.index_files.specs.declared.file.ReadFile.{ReadFile}
 use Rattle.index_files.specs.declared.local.Local.{Local}
 use Rattle.index_files.specs.declared.unit.Unit.{Unit}
 use Rattle.common_laws.specs.Each.{each-append}
@@ -49,7 +49,7 @@ put-last path_of cause (Some place) taken x Rest all go h = absurd (not-err all 
 -- ---- local packages
 
 module _ (env : Env) where
-  with-read : (taken : List Local) (file : File) (o : Result Source At) → AreFromFiles env taken → FileComes env file o
+  with-read : (taken : List Local) (file : ReadFile) (o : Result Source At) → AreFromFiles env taken → FileComes env file o
       → (Rest : List Local → Type 0) (ls : List Local) → ((next : List Local) → AreFromFiles env next → Rest next → AreFromFiles env ls) → GoesOn {T = List Local} (with_file taken file o) Rest (Ok ls) → AreFromFiles env ls
   with-read taken file (Ok source) a c Rest ls go h =
       let local : Local = record { path = file.path; source = source } in
@@ -57,7 +57,7 @@ module _ (env : Env) where
       (λ none. go (taken ++ local ∷ []) (record { once = distinct-keys local_name taken local a.once none; read = each-append (IsFromFile env) taken (local ∷ []) a.read ((file, c), tt) })) h
   with-read taken file (Err at) a c Rest ls go h = absurd (not-err ls _ _ refl h)
 
-  from-files : (files : List File) (taken ls : List Local) → AreFromFiles env taken → InTurn (FileComes env) with_file taken files (Ok ls) → AreFromFiles env ls
+  from-files : (files : List ReadFile) (taken ls : List Local) → AreFromFiles env taken → InTurn (FileComes env) with_file taken files (Ok ls) → AreFromFiles env ls
   from-files [] taken ls a h = subst (AreFromFiles env) (sym (same-ok ls taken _ _ refl refl h)) a
   from-files (file ∷ files) taken ls a h =
       with-read taken file h.0 a h.1 (λ next. InTurn (FileComes env) with_file next files (Ok ls)) ls (λ next b k. from-files files next ls b k) h.2
@@ -66,7 +66,7 @@ module _ (env : Env) where
   unfolding IsDistinct
   none-yet = record { once = tt; read = tt }
 
-  pub locals-from-files : (files : List File) (ls : List Local) → AreLocals env files (Ok ls) → AreFromFiles env ls
+  pub locals-from-files : (files : List ReadFile) (ls : List Local) → AreLocals env files (Ok ls) → AreFromFiles env ls
   locals-from-files files ls h = from-files files [] ls none-yet h
 
 -- ---- units
@@ -74,7 +74,7 @@ module _ (env : Env) where
 abbrev AreOnce : List Unit → Type 0
 AreOnce us = IsDistinct same_text (unit_ids us)
 
-one-record : (taken : List Unit) (file : File) (o : Result (Option UnitRecord) At) → AreOnce taken
+one-record : (taken : List Unit) (file : ReadFile) (o : Result (Option UnitRecord) At) → AreOnce taken
     → (Rest : List Unit → Type 0) (us : List Unit) → ((next : List Unit) → AreOnce next → Rest next → AreOnce us) → GoesOn {T = List Unit} (with_record taken file o) Rest (Ok us) → AreOnce us
 one-record taken file (Ok None) a Rest us go h = go taken a h
 one-record taken file (Ok (Some r)) a Rest us go h =
@@ -82,11 +82,11 @@ one-record taken file (Ok (Some r)) a Rest us go h =
     put-last unit_path DuplicateUnit (place_of taken (unit_id u)) taken u Rest us (λ none. go (taken ++ u ∷ []) (distinct-keys unit_id taken u a none)) h
 one-record taken file (Err at) a Rest us go h = absurd (not-err us _ _ refl h)
 
-from-records : (files : List File) (taken us : List Unit) → AreOnce taken → InTurn RecordComes with_record taken files (Ok us) → AreOnce us
+from-records : (files : List ReadFile) (taken us : List Unit) → AreOnce taken → InTurn RecordComes with_record taken files (Ok us) → AreOnce us
 from-records [] taken us a h = subst AreOnce (sym (same-ok us taken _ _ refl refl h)) a
 from-records (file ∷ files) taken us a h = one-record taken file h.0 a (λ next. InTurn RecordComes with_record next files (Ok us)) us (λ next b k. from-records files next us b k) h.2
 
-pub units-once : (files : List File) (us : List Unit) → AreUnits files (Ok us) → IsDistinct same_text (unit_ids us)
+pub units-once : (files : List ReadFile) (us : List Unit) → AreUnits files (Ok us) → IsDistinct same_text (unit_ids us)
 unfolding IsDistinct
 units-once files us h = from-records files [] us tt h
 

@@ -7,7 +7,7 @@ use Rattle.plan_types.specs.declared.condition.Env.{Env}
 use Rattle.outside_folder.specs.Files.{Bytes}
 use Rattle.outside_folder.specs.declared.folder.Name.{Name}
 use Rattle.index_files.specs.Releases.{AddsRelease, AddsVersion, AreReleases, AreVersions, version_dir}
-use Rattle.index_files.specs.declared.file.File.{File}
+use Rattle.index_files.specs.declared.file.ReadFile.{ReadFile}
 use Rattle.index_files.specs.declared.release.Release.{Release}
 use Rattle.index_files.specs.declared.versions.VersionDir.{VersionDir}
 use Rattle.std.proofs.lemmas.List.{map-append}
@@ -33,7 +33,7 @@ versions-more (m ∷ names) name dirs new h a =
       a.2 ∙ ap (λ ds. ds ++ add) h.4 ∙ append_assoc (version_dir m.text h.0) h.1 add,
     )
 
-pub releases-more : (env : Env) (name : Bytes) (dirs : List VersionDir) (files : List File) (dir : VersionDir) (file : File) (old new : List Release)
+pub releases-more : (env : Env) (name : Bytes) (dirs : List VersionDir) (files : List ReadFile) (dir : VersionDir) (file : ReadFile) (old new : List Release)
     → length files ≡ length dirs → AreReleases env name dirs files old → AddsRelease env name dir file old new → AreReleases env name (dirs ++ dir ∷ []) (files ++ file ∷ []) new
 releases-more env name [] [] dir file old new l h a = (a.0, [], a.1, refl, a.2 ∙ ap (λ rs. rs ++ a.0) h ∙ sym (append-nil a.0))
 releases-more env name [] (f ∷ files) dir file old new l h a = absurd (grind (arith, l))

@@ -10,7 +10,7 @@ use Rattle.index_files.specs.File.{Counts, count_all, file_found, fitting, size_
 use Rattle.index_files.specs.Releases.{AreReleases, AreVersions, files_below, names_below, release_paths}
 use Rattle.index_files.specs.Steps.{IsVisited, ReadsReleases, ReadsTooMany}
 use Rattle.index_files.specs.Totals.{is_too_many}
-use Rattle.index_files.specs.declared.file.File.{File}
+use Rattle.index_files.specs.declared.file.ReadFile.{ReadFile}
 use Rattle.plan_types.specs.declared.index.Places.{Places}
 use Rattle.index_files.specs.declared.release.Release.{Release}
 use Rattle.index_files.specs.declared.totals.Totals.{Totals}
@@ -23,7 +23,7 @@ not-equal n m h e = grind (arith, nat_tests)
 are-equal : (n m : ℕ) → false ≡ not (n == m) → n < m → ⊥
 are-equal n m h l = grind (arith, nat_tests)
 
-module _ (f b : ℕ) (all read : List File) (fit : read ≡ fitting f b all) where
+module _ (f b : ℕ) (all read : List ReadFile) (fit : read ≡ fitting f b all) where
   pub beyond-all : true ≡ not (length read == length all) → is_too_many (f + count_all all) (b + size_all all) ≡ true
   beyond-all h = elim (fit-or-beyond f b all) [
     | inl same ↦ absurd (not-equal (length read) (length all) h (ap length (fit ∙ same)))
@@ -36,7 +36,7 @@ module _ (f b : ℕ) (all read : List File) (fit : read ≡ fitting f b all) whe
     | inr many ↦ absurd (are-equal (length read) (length all) h (subst (λ n. n < length all) (sym (ap length fit)) many.1))
   ]
 
-module _ (places : Places) (files : Files) (name : Bytes) (before : Totals) (names : List Name) (dirs : List VersionDir) (paths : List Bytes) (read : List File)
+module _ (places : Places) (files : Files) (name : Bytes) (before : Totals) (names : List Name) (dirs : List VersionDir) (paths : List Bytes) (read : List ReadFile)
     (listed : names ≡ names_below places files name) (versions : AreVersions names dirs) (paths_are : paths ≡ release_paths places name dirs)
     (fit : read ≡ fitting before.files before.bytes (map (file_found false files) paths)) where
   fits : read ≡ fitting before.files before.bytes (files_below places files name dirs)

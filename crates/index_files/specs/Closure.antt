@@ -12,7 +12,7 @@ use Rattle.index_files.specs.Releases.{AreReleases, AreVersions, asked_in, files
 use Rattle.index_files.specs.Totals.{is_too_many}
 use Rattle.index_files.specs.Units.{needed_by}
 use Rattle.index_files.specs.declared.closure.FoundName.{FoundName}
-use Rattle.index_files.specs.declared.file.File.{File}
+use Rattle.index_files.specs.declared.file.ReadFile.{ReadFile}
 use Rattle.index_files.specs.declared.local.Local.{Local}
 use Rattle.plan_types.specs.declared.index.Places.{Places}
 use Rattle.index_files.specs.declared.release.Release.{Release}
@@ -76,7 +76,7 @@ pub record ReadsNothing (visit : Visit) : Type 0 where
 
 module _ (ground : Ground) (files : Files) where
   -- the files at the release paths of a name
-  abbrev pub visited_files : Visit → List File
+  abbrev pub visited_files : Visit → List ReadFile
   visited_files visit = files_below ground.places files visit.name visit.dirs
 
   -- the versions and releases of a name are those of the index

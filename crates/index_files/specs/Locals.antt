@@ -13,7 +13,7 @@ use Rattle.index_files.specs.File.{file_found}
 use Rattle.index_files.specs.InTurn.{InTurn}
 use Rattle.index_files.specs.OnceEach.{unless_there}
 use Rattle.index_files.specs.Sources.{Comes}
-use Rattle.index_files.specs.declared.file.File.{File}
+use Rattle.index_files.specs.declared.file.ReadFile.{ReadFile}
 use Rattle.index_files.specs.declared.local.Local.{Local}
 use Rattle.plan_types.specs.Bytes.{same_text}
 
@@ -38,16 +38,16 @@ abbrev pub TakesLocal : List Local → Bytes → Source → Result (List Local) 
 TakesLocal locals path source outcome = with_local locals (record { path = path; source = source }) ≡ outcome
 
 -- the local package of a file appended, or the refusal of its fault
-abbrev pub with_file : List Local → File → Result Source At → Result (List Local) Refusal
+abbrev pub with_file : List Local → ReadFile → Result Source At → Result (List Local) Refusal
 with_file locals file (Ok source) = with_local locals (record { path = file.path; source = source })
 with_file locals file (Err at) = Err (refusal_at file.path at.line at.cause)
 
 -- the outcome of a local package's file
-abbrev pub FileComes : Env → File → Result Source At → Type 0
+abbrev pub FileComes : Env → ReadFile → Result Source At → Type 0
 FileComes env file outcome = Comes env file.content outcome
 
 -- the local packages of these files, or the first refusal
-abbrev pub AreLocals : Env → List File → Result (List Local) Refusal → Type 0
+abbrev pub AreLocals : Env → List ReadFile → Result (List Local) Refusal → Type 0
 AreLocals env files outcome = InTurn (FileComes env) with_file [] files outcome
 
 -- the local packages at these paths of a folder, or the first refusal

@@ -12,7 +12,7 @@ use Rattle.index_files.specs.InTurn.{GoesOn}
 use Rattle.index_files.specs.Locals.{FileComes, ReadsLocals, local_names}
 use Rattle.index_files.specs.Steps.{AreKept}
 use Rattle.index_files.specs.Units.{IsWellFormed, ReadsUnits, record_files, unit_ids}
-use Rattle.index_files.specs.declared.file.File.{File}
+use Rattle.index_files.specs.declared.file.ReadFile.{ReadFile}
 use Rattle.index_files.specs.declared.local.Local.{Local}
 use Rattle.plan_types.specs.declared.index.Places.{Places}
 use Rattle.index_files.specs.declared.readings.Readings.{Readings}
@@ -47,7 +47,7 @@ AreReadings env places extra paths files outcome =
 
 -- a local package has the source of some file
 abbrev pub IsFromFile : Env → Local → Type 0
-IsFromFile env local = (file : File) × FileComes env file (Ok local.source)
+IsFromFile env local = (file : ReadFile) × FileComes env file (Ok local.source)
 
 -- each local package has the source of some file, and their names are distinct
 pub record AreFromFiles (env : Env) (locals : List Local) : Type 0 where

@@ -17,7 +17,7 @@ use Rattle.cabal_file.specs.declared.source.Source.{Source}
 use Rattle.index_files.specs.File.{file_found}
 use Rattle.index_files.specs.Places.{name_dir, release_path}
 use Rattle.index_files.specs.Sources.{Comes}
-use Rattle.index_files.specs.declared.file.File.{File}
+use Rattle.index_files.specs.declared.file.ReadFile.{ReadFile}
 use Rattle.plan_types.specs.declared.index.Places.{Places}
 use Rattle.index_files.specs.declared.release.Judged.{Judged}
 use Rattle.index_files.specs.declared.release.Judged.TheVariants.{Readable, Faulty}
@@ -49,7 +49,7 @@ abbrev pub names_below : Places → Files → Bytes → List Name
 names_below places files name = unwrap_or (listing files (name_dir places name)) []
 
 -- the files at these paths
-abbrev pub files_below : Places → Files → Bytes → List VersionDir → List File
+abbrev pub files_below : Places → Files → Bytes → List VersionDir → List ReadFile
 files_below places files name dirs = map (file_found false files) (release_paths places name dirs)
 
 -- ---- releases
@@ -79,11 +79,11 @@ IsReleaseIn env name version path TooLarge releases = IsOneRelease env name vers
 IsReleaseIn env name version path (Holds bytes) releases = IsOneRelease env name version path (Holds bytes) releases
 
 -- the release of a file, if it isn't missing
-abbrev pub IsRelease : Env → Bytes → VersionDir → File → List Release → Type 0
+abbrev pub IsRelease : Env → Bytes → VersionDir → ReadFile → List Release → Type 0
 IsRelease env name dir file releases = IsReleaseIn env name dir.version file.path file.content releases
 
 -- the releases of these versions and files
-abbrev pub AreReleases : Env → Bytes → List VersionDir → List File → List Release → Type 0
+abbrev pub AreReleases : Env → Bytes → List VersionDir → List ReadFile → List Release → Type 0
 AreReleases env name [] files releases = releases ≡ []
 AreReleases env name (dir ∷ dirs) [] releases = releases ≡ []
 AreReleases env name (dir ∷ dirs) (file ∷ files) releases =
@@ -110,9 +110,9 @@ abbrev pub AddsVersion : Bytes → List VersionDir → List VersionDir → Type 
 AddsVersion text old new = (version : Option Version) × IsVersionOf text version × (new ≡ old ++ version_dir text version)
 
 -- the release of a file was appended, if it isn't missing
-abbrev pub AddsRelease : Env → Bytes → VersionDir → File → List Release → List Release → Type 0
+abbrev pub AddsRelease : Env → Bytes → VersionDir → ReadFile → List Release → List Release → Type 0
 AddsRelease env name dir file old new = (here : List Release) × IsRelease env name dir file here × (new ≡ old ++ here)
 
 -- the one release of a file was appended
-abbrev pub AddsJudged : Env → Bytes → VersionDir → File → List Release → List Release → Type 0
+abbrev pub AddsJudged : Env → Bytes → VersionDir → ReadFile → List Release → List Release → Type 0
 AddsJudged env name dir file old new = (here : List Release) × IsOneRelease env name dir.version file.path file.content here × (new ≡ old ++ here)

@@ -10,7 +10,7 @@ use Rattle.index_files.specs.Names.{is_listed, put_all}
 use Rattle.index_files.specs.Releases.{AreReleases, AreVersions, files_below, names_below}
 use Rattle.index_files.specs.Totals.{is_too_many}
 use Rattle.index_files.specs.declared.closure.FoundName.{FoundName}
-use Rattle.index_files.specs.declared.file.File.{File}
+use Rattle.index_files.specs.declared.file.ReadFile.{ReadFile}
 use Rattle.plan_types.specs.declared.index.Places.{Places}
 use Rattle.index_files.specs.declared.release.Release.{Release}
 use Rattle.index_files.specs.declared.totals.Totals.{Totals}
@@ -20,7 +20,7 @@ use Rattle.plan_types.specs.Bytes.{same_text}
 -- ---- one name
 
 -- these files are too many, after these totals
-abbrev pub IsBeyondAll : Totals → List File → Type 0
+abbrev pub IsBeyondAll : Totals → List ReadFile → Type 0
 IsBeyondAll before read = is_too_many (before.files + count_all read) (before.bytes + size_all read) ≡ true
 
 -- the release files of a name are too many, after these totals
@@ -66,7 +66,7 @@ VisitsAt ground files names place before after read = Visits ground files (get_o
 -- the releases are those of some files with distinct versions
 pub record AreJudged (env : Env) (name : Bytes) (releases : List Release) : Type 0 where
   pub dirs : List VersionDir
-  pub files : List File
+  pub files : List ReadFile
   pub once : IsDistinct same_text (map (λ dir. dir.version.parts) dirs)
   pub are : AreReleases env name dirs files releases
 

@@ -19,7 +19,7 @@ use Rattle.index_files.specs.InTurn.{InTurn}
 use Rattle.index_files.specs.OnceEach.{unless_there}
 use Rattle.index_files.specs.Places.{record_path}
 use Rattle.index_files.specs.Sources.{bytes_in}
-use Rattle.index_files.specs.declared.file.File.{File}
+use Rattle.index_files.specs.declared.file.ReadFile.{ReadFile}
 use Rattle.plan_types.specs.declared.index.Places.{Places}
 use Rattle.index_files.specs.declared.unit.Unit.{Unit}
 use Rattle.plan_types.specs.Bytes.{same_text}
@@ -37,7 +37,7 @@ OfRecord None outcome = outcome ≡ Err (is_at 0 TooLarge)
 OfRecord (Some bytes) outcome = (found : Result (Option UnitRecord) ℕ) × IsRecord bytes found × (outcome ≡ record_outcome found)
 
 -- the outcome of a record's file
-abbrev pub RecordComes : File → Result (Option UnitRecord) At → Type 0
+abbrev pub RecordComes : ReadFile → Result (Option UnitRecord) At → Type 0
 RecordComes file outcome = OfRecord (bytes_in file.content) outcome
 
 -- ---- the units
@@ -80,12 +80,12 @@ abbrev pub TakesFound : List Unit → Bytes → Option UnitRecord → Result (Li
 TakesFound units path found outcome = with_found units path found ≡ outcome
 
 -- the unit of a record appended, or the refusal of its fault
-abbrev pub with_record : List Unit → File → Result (Option UnitRecord) At → Result (List Unit) Refusal
+abbrev pub with_record : List Unit → ReadFile → Result (Option UnitRecord) At → Result (List Unit) Refusal
 with_record units file (Ok found) = with_found units file.path found
 with_record units file (Err at) = Err (refusal_at file.path at.line at.cause)
 
 -- the units of these files, or the first refusal
-abbrev pub AreUnits : List File → Result (List Unit) Refusal → Type 0
+abbrev pub AreUnits : List ReadFile → Result (List Unit) Refusal → Type 0
 AreUnits files outcome = InTurn RecordComes with_record [] files outcome
 
 -- ---- the folder
@@ -104,7 +104,7 @@ module _ (places : Places) (files : Files) where
   paths_of_records = record_paths places (unwrap_or (listing files places.installed) [])
 
   -- the files of the records
-  abbrev pub record_files : List File
+  abbrev pub record_files : List ReadFile
   record_files = map (file_found true files) paths_of_records
 
 -- after the records that fit, too many of them are refused
@@ -114,7 +114,7 @@ unless_beyond places false (Ok units) = Err (refusal_at places.installed 0 TooMa
 unless_beyond places false (Err refusal) = Err refusal
 
 -- the units of these records before the first one too many, or the first refusal
-abbrev pub AreUnitsOf : Places → List File → Result (List Unit) Refusal → Type 0
+abbrev pub AreUnitsOf : Places → List ReadFile → Result (List Unit) Refusal → Type 0
 AreUnitsOf places all outcome =
     let read = fitting 0 0 all in
     (units : Result (List Unit) Refusal) × AreUnits read units × (outcome ≡ unless_beyond places (length read == length all) units)

@@ -12,12 +12,12 @@ use std::alloc::Global;
 
 /// A file that was read.
 #[derive(Debug, Drop)]
-pub(crate) struct File {
+pub(crate) struct ReadFile {
     pub path: Text,
     pub content: Content,
 }
 
-impl File {
+impl ReadFile {
     /// The number of files that it counts as.
     pub fn count(&self) -> usize
         ensures { result ≡ count_of self.now }
@@ -44,7 +44,7 @@ impl File {
 /// The files that were read, and whether the next one was too many.
 #[derive(Debug, Drop)]
 pub(crate) struct Fetched {
-    pub files: List<File>,
+    pub files: List<ReadFile>,
     pub beyond: bool,
 }
 
@@ -84,7 +84,7 @@ pub(crate) fn read_file<F: Folder>(
     path: &Text,
     listed: bool,
     folder: &mut F,
-) -> Result<File, Trouble>
+) -> Result<ReadFile, Trouble>
     ensures told { IfSome (F.tells folder.old) (λ files. IfOk result (λ file. file ≡ file_found listed files path.now)) }
     ensures readable { IfOk result HasContentWithinLimit }
     ensures folder { Leaves F.tells F.faults folder.old folder.new (IsErrOf result Trouble.Failed) }
@@ -92,7 +92,7 @@ pub(crate) fn read_file<F: Folder>(
     let content = read_content(alloc, path.as_str(), folder)?;
     let content = content_found(alloc, content, listed);
     let path = path.copy()?;
-    Ok(File { path, content })
+    Ok(ReadFile { path, content })
 }
 
 fn content_found(alloc: Global, content: Content, listed: bool) -> Content

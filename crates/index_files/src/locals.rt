@@ -8,7 +8,7 @@ ghost use Rattle.index_files.specs.Locals.{FileComes, ReadsLocals, TakesLocal, l
 ghost use Rattle.plan_types.specs.Bytes.{same_text};
 ghost use Rattle.plan_types.specs.Refusal.{Answers, Settles};
 
-use crate::file::{File, read_file};
+use crate::file::{ReadFile, read_file};
 use crate::file_source::source_in;
 use crate::local::Local;
 use cabal_file::Source;
@@ -65,7 +65,7 @@ impl Locals {
         }
     }
 
-    fn with_file(self, alloc: Global, file: &File, env: &Env) -> Result<Locals, Halt>
+    fn with_file(self, alloc: Global, file: &ReadFile, env: &Env) -> Result<Locals, Halt>
         requires { HasContentWithinLimit file.now }
         ensures { Settles (OnPart (λ locals. locals.list) (Steps (FileComes env.now) with_file self.list file.now)) result }
     {

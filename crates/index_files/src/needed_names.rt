@@ -10,24 +10,24 @@ use std::alloc::Global;
 
 /// For each package with records, the names that these mention.
 #[derive(Debug)]
-pub(crate) struct Needed {
+pub(crate) struct MentionedNames {
     pub by_name: IndexMap<Text, List<Text>>,
 }
 
 // Explicit, so that it is proved once: a derived one is expanded at each exit.
-impl Drop for Needed {
+impl Drop for MentionedNames {
     fn drop(self) {
-        let Needed { by_name: _by_name } = self;
+        let MentionedNames { by_name: _by_name } = self;
     }
 }
 
-impl Needed {
+impl MentionedNames {
     ghost use Rattle.index_files.specs.NeededNames.{Adds, needed_in};
 
-    pub(crate) fn of(alloc: Global, units: &Units) -> Result<Needed, NoMemory>
+    pub(crate) fn of(alloc: Global, units: &Units) -> Result<MentionedNames, NoMemory>
         ensures { IfOk result (λ needed. (name : List ℕ) → needed_in needed name ≡ needed_by units.now.list name) }
     {
-        let mut needed = Needed {
+        let mut needed = MentionedNames {
             by_name: IndexMap::new(alloc),
         };
         for unit in units.list.as_slice() {

@@ -4,7 +4,7 @@ ghost use Rattle.index_files.specs.Units.{needed_by};
 ghost use Rattle.std.specs.Prelude.{◌≡◌, List, ℕ};
 
 use crate::locals::Locals;
-use crate::needed_names::Needed;
+use crate::needed_names::MentionedNames;
 use crate::units::Units;
 use plan_types::{Env, List, Named, Places};
 
@@ -16,6 +16,6 @@ pub(crate) struct ReadBefore<'a> {
     pub locals: &'a Locals,
     pub units: &'a Units,
     pub extra: &'a List<Named>,
-    pub needed: &'a Needed,
+    pub needed: &'a MentionedNames,
     ghost needs: { (name : List ℕ) → needed_in needed.now name ≡ needed_by units.now.list name },
 }

@@ -13,7 +13,7 @@ ghost use Rattle.plan_types.specs.Bytes.{same_text};
 use crate::closure::{FoundName, read_closure};
 use crate::local::Local;
 use crate::locals::{Locals, read_locals};
-use crate::needed_names::Needed;
+use crate::needed_names::MentionedNames;
 use crate::places::record_path;
 use crate::read_before::ReadBefore;
 use crate::totals::too_many;
@@ -115,7 +115,7 @@ fn read_indexed<F: Folder>(
     ensures folder { Leaves F.tells F.faults folder.old folder.new (IsErrOf result Halt.Failed) }
 {
     let Counted { units, totals } = counted;
-    let needed = Needed::of(alloc, &units)?;
+    let needed = MentionedNames::of(alloc, &units)?;
     let before = ReadBefore {
         env,
         places,

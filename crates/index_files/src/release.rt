@@ -6,7 +6,7 @@ ghost use Rattle.outside_folder.specs.Calls.{IsWithin};
 ghost use Rattle.index_files.specs.File.{HasContentWithinLimit};
 ghost use Rattle.index_files.specs.Releases.{AddsJudged, AddsRelease, AreReleases, IsJudged, is_in_place, judged_as};
 
-use crate::file::File;
+use crate::file::ReadFile;
 use crate::file_source::source_in;
 use crate::versions::VersionDir;
 use cabal_file::Source;
@@ -34,7 +34,7 @@ pub(crate) fn releases_of(
     alloc: Global,
     name: &Text,
     dirs: &[VersionDir],
-    files: &[File],
+    files: &[ReadFile],
     env: &Env,
 ) -> Result<List<Release>, NoMemory>
     requires as_many { length files.now ≡ length dirs.now }
@@ -53,7 +53,7 @@ fn push_release(
     releases: &mut List<Release>,
     name: &Text,
     dir: &VersionDir,
-    file: &File,
+    file: &ReadFile,
     env: &Env,
 ) -> Result<(), NoMemory>
     requires { HasContentWithinLimit file.now }
@@ -71,7 +71,7 @@ fn push_judged(
     releases: &mut List<Release>,
     name: &Text,
     dir: &VersionDir,
-    file: &File,
+    file: &ReadFile,
     env: &Env,
 ) -> Result<(), NoMemory>
     requires { HasContentWithinLimit file.now }

@@ -11,7 +11,7 @@ ghost use Rattle.index_files.specs.InTurn.{OnPart, Steps};
 ghost use Rattle.index_files.specs.Sources.{bytes_in};
 ghost use Rattle.index_files.specs.Units.{AreUnitsOf, OfRecord, RecordComes, TakesFound, TakesUnit, is_well_formed, place_of, unit_id, unit_ids, with_found, with_record, with_unit};
 
-use crate::file::{File, read_file};
+use crate::file::{ReadFile, read_file};
 use crate::totals::{Totals, too_many};
 use crate::unit::Unit;
 use indexmap::IndexSet;
@@ -82,7 +82,7 @@ impl Units {
         }
     }
 
-    fn with_file(self, alloc: Global, file: &File) -> Result<Units, Halt>
+    fn with_file(self, alloc: Global, file: &ReadFile) -> Result<Units, Halt>
         requires { HasContentWithinLimit file.now }
         ensures { Settles (OnPart (λ units. units.list) (Steps RecordComes with_record self.list file.now)) result }
     {

@@ -12,7 +12,7 @@ use Rattle.plan_types.specs.declared.description.Description.{Description}
 use Rattle.plan_types.specs.declared.index.Body.{Body}
 use Rattle.plan_types.specs.declared.index.Body.TheVariants.{Source, Installed}
 use Rattle.qualified_goals.specs.declared.variable.Qual.{Qual}
-use Rattle.plan_components.specs.declared.owner.Known.{Known}
+use Rattle.plan_components.specs.declared.owner.KnownOwner.{KnownOwner}
 use Rattle.plan_components.specs.declared.node.Node.{Node}
 use Rattle.plan_components.specs.Chosen.{Selection, body_at, chosen_flags}
 use Rattle.plan_components.specs.Needs.{means}
@@ -64,7 +64,7 @@ abbrev pub means_at : Dep → List Component → ℕ → Bool
 means_at dep components place = passes_one (means dep.kind dep) (slice_get components place)
 
 -- the flags and places are those of the owner's package
-pub record IsKnown (selection : Selection) (known : Known) : Type 0 where
+pub record IsKnown (selection : Selection) (known : KnownOwner) : Type 0 where
   pub flags : known.flags ≡ flags_at selection known.owner.qual known.owner.«package»
   pub named : AreNamed (components_at selection known.owner.qual known.owner.«package») known.places
 

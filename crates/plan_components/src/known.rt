@@ -9,7 +9,7 @@ ghost use Rattle.plan_components.specs.Known.{AreNamed, IsKnown, IsSourceOf};
 
 use crate::chosen::Chosen;
 use crate::node::Node;
-use crate::owner::Known;
+use crate::owner::KnownOwner;
 use cabal_problem::package_var;
 use choice_problem::is_same;
 use indexmap::IndexMap;
@@ -22,10 +22,10 @@ use std::alloc::Global;
 pub(crate) fn known_of(
     alloc: Global,
     chosen: &Chosen<'_>,
-    last: Option<Known>,
+    last: Option<KnownOwner>,
     node: Node,
     d: &Description,
-) -> Result<Known, NoMemory>
+) -> Result<KnownOwner, NoMemory>
     requires apart { are_apart (map (λ decl. decl.name) d.now.flags) ≡ true }
     requires source { IsSourceOf (selection_of chosen.now) node d.now }
     requires last { IfSome last (IsKnown (selection_of chosen.now)) }
@@ -34,7 +34,7 @@ pub(crate) fn known_of(
 {
     match last {
         Some(known) if known.is_of(node.qual, node.package) => Ok(known),
-        _ => Known::of(alloc, chosen, node, d),
+        _ => KnownOwner::of(alloc, chosen, node, d),
     }
 }
 
@@ -49,13 +49,13 @@ fn named_places(alloc: Global, components: &[Component]) -> Result<Lists<Text, u
     Ok(named)
 }
 
-impl Known {
+impl KnownOwner {
     pub(crate) fn of(
         alloc: Global,
         chosen: &Chosen<'_>,
         node: Node,
         d: &Description,
-    ) -> Result<Known, NoMemory>
+    ) -> Result<KnownOwner, NoMemory>
         requires { are_apart (map (λ decl. decl.name) d.now.flags) ≡ true }
         ensures flags { IfOk result (λ known. known.flags ≡ chosen_flags (selection_of chosen.now) node.qual node.«package» d.now) }
         ensures known { IsSourceOf (selection_of chosen.now) node d.now → IfOk result (IsKnown (selection_of chosen.now)) }
@@ -63,7 +63,7 @@ impl Known {
         let owner = package_var(node.qual, node.package);
         let flags = chosen.flags(alloc, node.qual, node.package, d)?;
         let places = named_places(alloc, d.components.as_slice())?;
-        Ok(Known {
+        Ok(KnownOwner {
             owner,
             flags,
             places,

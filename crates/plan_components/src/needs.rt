@@ -14,7 +14,7 @@ use crate::chosen::Chosen;
 use crate::components::{is_executable, is_lib};
 use crate::known::known_of;
 use crate::node::{Need, Node, Piece};
-use crate::owner::{Known, Owner};
+use crate::owner::{KnownOwner, Owner};
 use crate::pieces::{as_pieces, node_of, only_whole};
 use cabal_problem::{package_var, qual_for};
 use plan_types::{
@@ -27,7 +27,7 @@ use std::alloc::Global;
 pub(crate) fn needs_of(
     alloc: Global,
     chosen: &Chosen<'_>,
-    last: &mut Option<Known>,
+    last: &mut Option<KnownOwner>,
     node: Node,
 ) -> Result<List<Need>, NoMemory>
     requires { IfSome last.old (IsKnown (selection_of chosen.now)) }
@@ -82,7 +82,7 @@ fn need_of(kind: DepKind, qual: Qual, package: u64, piece: Piece) -> Need
 fn source_needs(
     alloc: Global,
     chosen: &Chosen<'_>,
-    last: &mut Option<Known>,
+    last: &mut Option<KnownOwner>,
     node: Node,
     d: &Description,
 ) -> Result<List<Need>, NoMemory>
@@ -102,7 +102,7 @@ fn piece_needs(
     alloc: Global,
     chosen: &Chosen<'_>,
     node: Node,
-    known: &Known,
+    known: &KnownOwner,
     d: &Description,
 ) -> Result<List<Need>, NoMemory>
     requires { IsKnown (selection_of chosen.now) known.now }
@@ -319,7 +319,7 @@ fn qual_of_dep(node: Node, dep: &Dep, package: u64) -> Qual
 fn meant_pieces(
     alloc: Global,
     chosen: &Chosen<'_>,
-    known: &Known,
+    known: &KnownOwner,
     dep: &Dep,
     qual: Qual,
     package: u64,
@@ -342,7 +342,7 @@ fn meant_pieces(
 // If the package is the known one and the dependency is on one name, only components of that name are tested.
 fn meant_places(
     alloc: Global,
-    known: &Known,
+    known: &KnownOwner,
     own: bool,
     dep: &Dep,
     components: &[Component],
@@ -360,7 +360,7 @@ fn meant_places(
 
 fn asked_among(
     alloc: Global,
-    known: &Known,
+    known: &KnownOwner,
     dep: &Dep,
     components: &[Component],
     name: &Text,

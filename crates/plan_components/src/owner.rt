@@ -8,7 +8,7 @@ use plan_types::{FlagSet, List, Text};
 use qualified_goals::Var;
 
 /// A package under a qualifier, its flags with their values, and the places of its components by name.
-pub(crate) struct Known {
+pub(crate) struct KnownOwner {
     pub owner: Var,
     pub flags: List<FlagSet>,
     pub places: Lists<Text, u64>,
@@ -16,9 +16,9 @@ pub(crate) struct Known {
 }
 
 // Explicit, so that it is proved once: a derived one is expanded at each exit.
-impl Drop for Known {
+impl Drop for KnownOwner {
     fn drop(self) {
-        let Known {
+        let KnownOwner {
             owner: _owner,
             flags: _flags,
             places: _places,
@@ -30,5 +30,5 @@ impl Drop for Known {
 #[derive(Drop)]
 pub(crate) struct Owner<'a> {
     pub node: Node,
-    pub known: &'a Known,
+    pub known: &'a KnownOwner,
 }

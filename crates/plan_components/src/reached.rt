@@ -11,7 +11,7 @@ ghost use Rattle.plan_components.specs.Wanted.{first_nodes};
 use crate::chosen::Chosen;
 use crate::needs::needs_of;
 use crate::node::{Need, Node};
-use crate::owner::Known;
+use crate::owner::KnownOwner;
 use crate::put::{put_all, put_needed};
 use crate::wanted::first_nodes;
 use indexmap::IndexSet;
@@ -81,7 +81,7 @@ fn first_set(alloc: Global, chosen: &Chosen<'_>) -> Result<IndexSet<Node>, NoMem
 fn visit(
     alloc: Global,
     chosen: &Chosen<'_>,
-    last: &mut Option<Known>,
+    last: &mut Option<KnownOwner>,
     nodes: &mut IndexSet<Node>,
     place: usize,
 ) -> Result<List<Need>, NoMemory>

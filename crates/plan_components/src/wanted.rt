@@ -10,7 +10,7 @@ ghost use Rattle.plan_components.specs.Wanted.{first_nodes, first_of, first_piec
 use crate::chosen::Chosen;
 use crate::components::{is_executable, is_lib};
 use crate::node::{Node, Piece};
-use crate::owner::{Known, Owner};
+use crate::owner::{KnownOwner, Owner};
 use crate::pieces::{as_pieces, node_of, only_whole};
 use plan_types::{Body, Component, Description, LibName, List, NoMemory, Package};
 use qualified_goals::Qual;
@@ -98,7 +98,7 @@ fn source_pieces(
     ensures { IfOk result (λ pieces. pieces ≡ source_pieces (selection_of chosen.now) local «package» d.now) }
 {
     let node = node_of(Qual::Top, package, Piece::Whole);
-    let known = Known::of(alloc, chosen, node, d)?;
+    let known = KnownOwner::of(alloc, chosen, node, d)?;
     let owner = Owner {
         node,
         known: &known,

@@ -25,17 +25,17 @@ use Rattle.project_file.specs.Read.{AllRead, FileReads, GoesOn, IsProject, in_fr
 use Rattle.project_file.specs.Texts.{Reads, first_fault, unless_bad}
 use Rattle.project_file.specs.Words.{field_word, section_word}
 use Rattle.project_file.specs.declared.part.ProjectPart.{ProjectPart}
-use Rattle.project_file.specs.declared.part.Said.{Said}
-use Rattle.project_file.specs.declared.part.Said.TheVariants as said
+use Rattle.project_file.specs.declared.part.ProjectSaid.{ProjectSaid}
+use Rattle.project_file.specs.declared.part.ProjectSaid.TheVariants as said
 use Rattle.project_file.specs.declared.part.Switch.{Switch}
 use Rattle.project_file.specs.declared.part.Switch.TheVariants.{Tests, Benchmarks, PreferOldest, BootInstalls}
 use Rattle.project_file.specs.declared.read.ProjectText.{ProjectText}
-use Rattle.project_file.specs.declared.text.At.{At}
-use Rattle.project_file.specs.declared.words.BranchWord.{BranchWord}
+use Rattle.project_file.specs.declared.text.FaultLine.{FaultLine}
+use Rattle.project_file.specs.declared.words.ProjectBranchWord.{ProjectBranchWord}
 use Rattle.project_file.specs.declared.words.FieldKind.{FieldKind}
 use Rattle.project_file.specs.declared.words.FieldKind.TheVariants as kinds
-use Rattle.project_file.specs.declared.words.FieldWord.{FieldWord}
-use Rattle.project_file.specs.declared.words.FieldWord.TheVariants as fields
+use Rattle.project_file.specs.declared.words.ProjectFieldWord.{ProjectFieldWord}
+use Rattle.project_file.specs.declared.words.ProjectFieldWord.TheVariants as fields
 use Rattle.project_file.specs.declared.words.SectionWord.{SectionWord}
 use Rattle.common_laws.specs.Passing.{all-append}
 use Rattle.text_grammar.specs.Words.{boolean}
@@ -48,7 +48,7 @@ abbrev pub are_named : List Named → Bool
 are_named extra = list_all (λ named. is_package_name named.name) extra
 
 -- all extra packages of this content have well-formed names, wherever it is
-abbrev is_well : Said → Bool
+abbrev is_well : ProjectSaid → Bool
 is_well found = are_named (given_at [] 0 found).extra
 
 abbrev are_well : List ProjectPart → Bool
@@ -65,14 +65,14 @@ each-named pieces extra none = refl
 each-named pieces extra (more {part = part} {x = named} {parts = parts} {xs = others} here rest) =
     and_from (is_package_name named.name) (are_named others) (ap is_package_name here.name ∙ here.form) (each-named parts others rest)
 
-read-well : {A : Type 0} (as' : A → Said) (Stands : A → Type 0) (Fails : Cause → Type 0) → ((a : A) → Stands a → is_well (as' a) ≡ true) → (read : Result A Cause) → Read Stands Fails read → is_well (said_of as' read) ≡ true
+read-well : {A : Type 0} (as' : A → ProjectSaid) (Stands : A → Type 0) (Fails : Cause → Type 0) → ((a : A) → Stands a → is_well (as' a) ≡ true) → (read : Result A Cause) → Read Stands Fails read → is_well (said_of as' read) ≡ true
 read-well as' Stands Fails each (Ok a) stands = each a stands
 read-well as' Stands Fails each (Err cause) fails = refl
 
-said-well : {A : Type 0} (as' : A → Said) (Stands : A → Type 0) (Fails : Cause → Type 0) → ((a : A) → Stands a → is_well (as' a) ≡ true) → (found : Said) → IsRead as' Stands Fails found → is_well found ≡ true
+said-well : {A : Type 0} (as' : A → ProjectSaid) (Stands : A → Type 0) (Fails : Cause → Type 0) → ((a : A) → Stands a → is_well (as' a) ≡ true) → (found : ProjectSaid) → IsRead as' Stands Fails found → is_well found ≡ true
 said-well as' Stands Fails each found says = ap is_well says.2 ∙ read-well as' Stands Fails each says.0 says.1
 
-bad-well : {A : Type 0} (as' : A → Said) → ((a : A) → is_well (as' a) ≡ true) → (value : Option A) → is_well (or_bad as' value) ≡ true
+bad-well : {A : Type 0} (as' : A → ProjectSaid) → ((a : A) → is_well (as' a) ≡ true) → (value : Option A) → is_well (or_bad as' value) ≡ true
 bad-well as' each None = refl
 bad-well as' each (Some a) = each a
 
@@ -82,7 +82,7 @@ switch-well Benchmarks on = refl
 switch-well PreferOldest on = refl
 switch-well BootInstalls on = refl
 
-kind-well : (kind : FieldKind) (text : List ℕ) (found : Said) → KindSays kind text found → is_well found ≡ true
+kind-well : (kind : FieldKind) (text : List ℕ) (found : ProjectSaid) → KindSays kind text found → is_well found ≡ true
 kind-well kinds.Packages text found says = ap is_well says
 kind-well kinds.OptionalPackages text found says = ap is_well says
 kind-well kinds.Extra text found says = said-well said.Extra (NamedRanges text) (NamedFault text) (λ extra ranges. each-named _ extra ranges.each) found says
@@ -93,7 +93,7 @@ kind-well kinds.Older text found says = said-well said.Older (Relaxes text) (Rel
 kind-well (kinds.Switch which) text found says = ap is_well says ∙ bad-well (said.Switch which) (switch-well which) (boolean text)
 kind-well kinds.Limit text found says = ap is_well says ∙ bad-well said.Limit (λ value. refl) (limit_of text)
 
-field-well : (word : FieldWord) (name text : List ℕ) (line : ℕ) (found : Option Said) → FieldSays word name text found → are_well (placed line found) ≡ true
+field-well : (word : ProjectFieldWord) (name text : List ℕ) (line : ℕ) (found : Option ProjectSaid) → FieldSays word name text found → are_well (placed line found) ≡ true
 field-well (fields.Read kind) name text line found says = ap (λ f. are_well (placed line f)) says.2 ∙ and_from (is_well says.0) true (kind-well kind text says.0 says.1) refl
 field-well fields.Warned name text line found says = ap (λ f. are_well (placed line f)) says
 field-well fields.Unsupported name text line found says = ap (λ f. are_well (placed line f)) says
@@ -119,7 +119,7 @@ package-well : (line : ℕ) (args : List ℕ) (items : Tree) → are_well (packa
 package-well line args items =
     either are_well (is_every args || is_package_name args) (flag_parts args items) (record { line = line; said = said.Bad BadName } ∷ []) (items-well args items) refl
 
-fault-well : (word : BranchWord) (line : ℕ) (chain : Option Bool) (own : Result Bool Cause) → are_well (placed line (branch_fault word chain own)) ≡ true
+fault-well : (word : ProjectBranchWord) (line : ℕ) (chain : Option Bool) (own : Result Bool Cause) → are_well (placed line (branch_fault word chain own)) ≡ true
 fault-well word line chain (Err cause) = refl
 fault-well word line chain (Ok value) = either (λ fault. are_well (placed line fault)) (fits word chain) None (Some (said.Bad ElseWithoutIf)) refl refl
 
@@ -129,7 +129,7 @@ inside-well false Within each parts inside = ap are_well inside
 
 module _ (env : Env) (line : ℕ) (name args : List ℕ) (items : Tree) (chain : Option Bool) (Within : List ProjectPart → Type 0) (Behind : Option Bool → List ProjectPart → Type 0)
     (within : (parts : List ProjectPart) → Within parts → are_well parts ≡ true) (behind : (left : Option Bool) (parts : List ProjectPart) → Behind left parts → are_well parts ≡ true) where
-  branch-well : (word : BranchWord) (left : Option Bool) (found : List ProjectPart) → IsBranch env word line args chain Within left found → are_well found ≡ true
+  branch-well : (word : ProjectBranchWord) (left : Option Bool) (found : List ProjectPart) → IsBranch env word line args chain Within left found → are_well found ≡ true
   branch-well word left found branch =
       ap are_well branch.are
       ∙ all-append (λ part. is_well part.said) (placed line (branch_fault word chain branch.own)) branch.within (fault-well word line chain branch.own) (inside-well _ Within within branch.within branch.inside)
@@ -158,15 +158,15 @@ says-well env (section line name args items behind) chain parts says =
 abbrev IsWell : {E : Type 0} → Result (List ProjectPart) E → Type 0
 IsWell read = IfOk read (λ parts. are_well parts ≡ true)
 
-unless-well : (fault : Option At) (parts : List ProjectPart) → are_well parts ≡ true → IsWell (unless_bad fault parts)
+unless-well : (fault : Option FaultLine) (parts : List ProjectPart) → are_well parts ≡ true → IsWell (unless_bad fault parts)
 unless-well None parts well = well
 unless-well (Some at) parts well = tt
 
-text-well : (env : Env) (bytes : List ℕ) (read : Result (List ProjectPart) At) → Reads env bytes read → IsWell read
+text-well : (env : Env) (bytes : List ℕ) (read : Result (List ProjectPart) FaultLine) → Reads env bytes read → IsWell read
 text-well env bytes read (inl misfits) = subst (λ r. IsWell r) (sym misfits.comes) tt
 text-well env bytes read (inr says) = subst (λ r. IsWell r) (sym says.comes) (unless-well (first_fault says.parts) says.parts (says-well env (tree_of says.items) None says.parts says.says))
 
-or_refusal-well : (path : List ℕ) (read : Result (List ProjectPart) At) → IsWell read → IsWell (or_refusal path read)
+or_refusal-well : (path : List ℕ) (read : Result (List ProjectPart) FaultLine) → IsWell read → IsWell (or_refusal path read)
 or_refusal-well path (Ok parts) well = well
 or_refusal-well path (Err at) well = tt
 
@@ -182,7 +182,7 @@ abbrev IsPlacedWell : Result (List Placed) Refusal → Type 0
 IsPlacedWell read = IfOk read (λ parts. are_placed_well parts ≡ true)
 
 -- path and line don't matter
-given-extra : (path : List ℕ) (line : ℕ) (found : Said) → (given_at path line found).extra ≡ (given_at [] 0 found).extra
+given-extra : (path : List ℕ) (line : ℕ) (found : ProjectSaid) → (given_at path line found).extra ≡ (given_at [] 0 found).extra
 given-extra path line (said.Entries texts optional) = refl
 given-extra path line (said.Extra extra) = refl
 given-extra path line (said.Constraints constraints) = refl

@@ -27,16 +27,16 @@ use Rattle.project_file.specs.Read.{AllRead, FileReads, GoesOn, IsProject, in_fr
 use Rattle.project_file.specs.Texts.{Reads, first_fault, unless_bad}
 use Rattle.project_file.specs.Words.{field_word, section_word}
 use Rattle.project_file.specs.declared.part.ProjectPart.{ProjectPart}
-use Rattle.project_file.specs.declared.part.Said.{Said}
-use Rattle.project_file.specs.declared.part.Said.TheVariants as said
+use Rattle.project_file.specs.declared.part.ProjectSaid.{ProjectSaid}
+use Rattle.project_file.specs.declared.part.ProjectSaid.TheVariants as said
 use Rattle.project_file.specs.declared.read.ProjectText.{ProjectText}
-use Rattle.project_file.specs.declared.text.At.{At}
-use Rattle.project_file.specs.declared.words.BranchWord.{BranchWord}
-use Rattle.project_file.specs.declared.words.BranchWord.TheVariants.{If, Elif, Else}
+use Rattle.project_file.specs.declared.text.FaultLine.{FaultLine}
+use Rattle.project_file.specs.declared.words.ProjectBranchWord.{ProjectBranchWord}
+use Rattle.project_file.specs.declared.words.ProjectBranchWord.TheVariants.{If, Elif, Else}
 use Rattle.project_file.specs.declared.words.FieldKind.{FieldKind}
 use Rattle.project_file.specs.declared.words.FieldKind.TheVariants as kinds
-use Rattle.project_file.specs.declared.words.FieldWord.{FieldWord}
-use Rattle.project_file.specs.declared.words.FieldWord.TheVariants as fields
+use Rattle.project_file.specs.declared.words.ProjectFieldWord.{ProjectFieldWord}
+use Rattle.project_file.specs.declared.words.ProjectFieldWord.TheVariants as fields
 use Rattle.project_file.specs.declared.words.SectionWord.{SectionWord}
 use Rattle.constraint_text.specs.Faults.{IsBadConstraint}
 use Rattle.text_grammar.specs.Outcome.{Read}
@@ -49,25 +49,25 @@ module _ {A : Type 0} (S : A → Type 0) (F : Cause → Type 0) (one : (a b : A)
   one_read (Err c) (Ok a) p q = absurd (both a c q p)
   one_read (Err c) (Err d) p q = ap Err (one_fault c d p q)
 
-  one_said_of : (as' : A → Said) (x y : Said) → IsRead as' S F x → IsRead as' S F y → x ≡ y
+  one_said_of : (as' : A → ProjectSaid) (x y : ProjectSaid) → IsRead as' S F x → IsRead as' S F y → x ≡ y
   one_said_of as' x y p q = p.2 ∙ ap (said_of as') (one_read p.0 q.0 p.1 q.1) ∙ sym q.2
 
-one_named : (as' : _) (text : List ℕ) (x y : Said) → IsRead as' (NamedRanges text) (NamedFault text) x → IsRead as' (NamedRanges text) (NamedFault text) y → x ≡ y
+one_named : (as' : _) (text : List ℕ) (x y : ProjectSaid) → IsRead as' (NamedRanges text) (NamedFault text) x → IsRead as' (NamedRanges text) (NamedFault text) y → x ≡ y
 one_named as' text =
     one_said_of (NamedRanges text) (NamedFault text) (only.one_reading NamedEntry named_settled.one text) (only.one_first NamedEntry (IsBadConstraint NamedEntry) named_settled text)
     (only.reading_or_fault NamedEntry (IsBadConstraint NamedEntry) named_settled.not_both text) as'
 
-one_constraints : (as' : _) (text : List ℕ) (x y : Said) → IsRead as' (Constraints text) (ConstraintsFault text) x → IsRead as' (Constraints text) (ConstraintsFault text) y → x ≡ y
+one_constraints : (as' : _) (text : List ℕ) (x y : ProjectSaid) → IsRead as' (Constraints text) (ConstraintsFault text) x → IsRead as' (Constraints text) (ConstraintsFault text) y → x ≡ y
 one_constraints as' text =
     one_said_of (Constraints text) (ConstraintsFault text) (only.one_reading ConstraintEntry constraint_settled.one text) (only.one_first ConstraintEntry (IsBadConstraint ConstraintEntry) constraint_settled text)
     (only.reading_or_fault ConstraintEntry (IsBadConstraint ConstraintEntry) constraint_settled.not_both text) as'
 
-one_relax : (as' : _) (text : List ℕ) (x y : Said) → IsRead as' (Relaxes text) (RelaxFault text) x → IsRead as' (Relaxes text) (RelaxFault text) y → x ≡ y
+one_relax : (as' : _) (text : List ℕ) (x y : ProjectSaid) → IsRead as' (Relaxes text) (RelaxFault text) x → IsRead as' (Relaxes text) (RelaxFault text) y → x ≡ y
 one_relax as' text =
     one_said_of (Relaxes text) (RelaxFault text) (λ a b r s. given_reading text r.each a r.entries r.is b s) (only.one_first RelaxEntry (IsBadConstraint RelaxEntry) relax_settled text)
     (λ a cause r f. no_fault text r.each r.entries cause f) as'
 
-one_kind : (kind : FieldKind) (text : List ℕ) (x y : Said) → KindSays kind text x → KindSays kind text y → x ≡ y
+one_kind : (kind : FieldKind) (text : List ℕ) (x y : ProjectSaid) → KindSays kind text x → KindSays kind text y → x ≡ y
 one_kind kinds.Packages text x y p q = p ∙ sym q
 one_kind kinds.OptionalPackages text x y p q = p ∙ sym q
 one_kind kinds.Extra text x y p q = one_named said.Extra text x y p q
@@ -78,7 +78,7 @@ one_kind kinds.Older text x y p q = one_relax said.Older text x y p q
 one_kind (kinds.Switch which) text x y p q = p ∙ sym q
 one_kind kinds.Limit text x y p q = p ∙ sym q
 
-one_field : (word : FieldWord) (name text : List ℕ) (x y : Option Said) → FieldSays word name text x → FieldSays word name text y → x ≡ y
+one_field : (word : ProjectFieldWord) (name text : List ℕ) (x y : Option ProjectSaid) → FieldSays word name text x → FieldSays word name text y → x ≡ y
 one_field (fields.Read kind) name text x y p q = p.2 ∙ ap Some (one_kind kind text p.0 q.0 p.1 q.1) ∙ sym q.2
 one_field fields.Warned name text x y p q = p ∙ sym q
 one_field fields.Unsupported name text x y p q = p ∙ sym q
@@ -88,7 +88,7 @@ one_condition : (text : List ℕ) (r q : Result Cond Cause) → Read (Stands V3_
 one_condition text =
     one_read (Stands V3_0 64 text) (FirstFault V3_0 64 text) (conditions.one_condition V3_0 64 text) (conditions.one_fault V3_0 64 text) (conditions.condition_or_fault V3_0 64 text)
 
-one_own : (env : Env) (word : BranchWord) (args : List ℕ) (x y : Result Bool Cause) → Decides env word args x → Decides env word args y → x ≡ y
+one_own : (env : Env) (word : ProjectBranchWord) (args : List ℕ) (x y : Result Bool Cause) → Decides env word args x → Decides env word args y → x ≡ y
 one_own env If args x y p q = p.2 ∙ ap (decided_of env) (one_condition args p.0 q.0 p.1 q.1) ∙ sym q.2
 one_own env Elif args x y p q = p.2 ∙ ap (decided_of env) (one_condition args p.0 q.0 p.1 q.1) ∙ sym q.2
 one_own env Else args x y p q = p ∙ sym q
@@ -99,7 +99,7 @@ one_within false Within one x y p q = p ∙ sym q
 
 module _ (env : Env) (line : ℕ) (name args : List ℕ) (items : Tree) (chain : Option Bool) (Within : List ProjectPart → Type 0) (Behind : Option Bool → List ProjectPart → Type 0)
     (within : (x y : List ProjectPart) → Within x → Within y → x ≡ y) (behind : (left : Option Bool) (x y : List ProjectPart) → Behind left x → Behind left y → x ≡ y) where
-  one_branch : (word : BranchWord) (left other : Option Bool) (a b : List ProjectPart) → IsBranch env word line args chain Within left a → IsBranch env word line args chain Within other b → (left ≡ other) × (a ≡ b)
+  one_branch : (word : ProjectBranchWord) (left other : Option Bool) (a b : List ProjectPart) → IsBranch env word line args chain Within left a → IsBranch env word line args chain Within other b → (left ≡ other) × (a ≡ b)
   one_branch word left other a b p q =
       let own = one_own env word args p.own q.own p.decides q.decides in
       let here = one_within (is_taken word chain q.own) Within within p.within q.within (subst (λ o. IfTaken (is_taken word chain o) Within p.within) own p.inside) q.inside in (
@@ -128,7 +128,7 @@ one_says env (section line name args items behind) chain a b p q =
     one_section env line name args items chain (λ within. Says env items None within) (λ left more. Says env behind left more)
     (λ x y. one_says env items None x y) (λ left x y. one_says env behind left x y) (section_word name) a b p q
 
-one_text : (env : Env) (bytes : List ℕ) (a b : Result (List ProjectPart) At) → Reads env bytes a → Reads env bytes b → a ≡ b
+one_text : (env : Env) (bytes : List ℕ) (a b : Result (List ProjectPart) FaultLine) → Reads env bytes a → Reads env bytes b → a ≡ b
 one_text env bytes a b (inl p) (inl q) =
     let same = lexer.one_refusal bytes p.at.line q.at.line p.at.cause q.at.cause p.fault q.fault in
     p.comes ∙ ap (λ l. Err (record { line = l; cause = p.at.cause })) same.0 ∙ ap (λ c. Err (record { line = q.at.line; cause = c })) same.1 ∙ sym q.comes

@@ -9,8 +9,8 @@ use Rattle.std.proofs.lemmas.List.{append-nil}
 use Rattle.plan_types.specs.declared.limit.Limit.TheVariants.{At}
 use Rattle.plan_types.specs.declared.project.Project.{Project}
 use Rattle.project_file.specs.Project.{Given, Placed, all, given, given_at, last_or, project_from, with_switch}
-use Rattle.project_file.specs.declared.part.Said.{Said}
-use Rattle.project_file.specs.declared.part.Said.TheVariants as said
+use Rattle.project_file.specs.declared.part.ProjectSaid.{ProjectSaid}
+use Rattle.project_file.specs.declared.part.ProjectSaid.TheVariants as said
 use Rattle.project_file.specs.declared.part.Switch.{Switch}
 use Rattle.project_file.specs.declared.part.Switch.TheVariants.{Tests, Benchmarks, PreferOldest, BootInstalls}
 
@@ -69,7 +69,7 @@ project_push parts part i = record {
 }
 
 -- the project changes by the values of the part alone
-pub goes : (path : List ℕ) (line : ℕ) {said told : Said} (old : Project) {new : Project} → told ≡ said → new ≡ joined old (given_at path line said) →
+pub goes : (path : List ℕ) (line : ℕ) {said told : ProjectSaid} (old : Project) {new : Project} → told ≡ said → new ≡ joined old (given_at path line said) →
     (before : List Placed) → old ≡ project_from before → new ≡ project_from (before ++ record { path = path; line = line; said = told } ∷ [])
 goes path line {said = said} old is new-is before e =
     new-is ∙ ap (λ p. joined p (given_at path line said)) e ∙ ap (λ s. joined (project_from before) (given_at path line s)) (sym is)

@@ -12,15 +12,15 @@ use Rattle.project_file.specs.Fields.{FieldSays}
 use Rattle.project_file.specs.Parts.{IsBranch, Says, SectionSays, flag_part, flag_parts, package_parts, placed}
 use Rattle.project_file.specs.Words.{field_word, section_word}
 use Rattle.project_file.specs.declared.part.ProjectPart.{ProjectPart}
-use Rattle.project_file.specs.declared.part.Said.{Said}
-use Rattle.project_file.specs.declared.part.Said.TheVariants as said
-use Rattle.project_file.specs.declared.words.BranchWord.{BranchWord}
+use Rattle.project_file.specs.declared.part.ProjectSaid.{ProjectSaid}
+use Rattle.project_file.specs.declared.part.ProjectSaid.TheVariants as said
+use Rattle.project_file.specs.declared.words.ProjectBranchWord.{ProjectBranchWord}
 use Rattle.project_file.specs.declared.words.SectionWord.{SectionWord}
 use Rattle.cabal_lexer.proofs.Trees.{added, field_in_front, section_in_front, tree_from}
 use Rattle.project_file.specs.declared.words.SectionWord.TheVariants as sections
 
 module _ (env : Env) where
-  pub field_goes : {item : Element} (line : ℕ) (name : List ℕ) (values : List (List ℕ)) (chain : Option Bool) (found : Option Said) (old : List ProjectPart) {new : List ProjectPart} →
+  pub field_goes : {item : Element} (line : ℕ) (name : List ℕ) (values : List (List ℕ)) (chain : Option Bool) (found : Option ProjectSaid) (old : List ProjectPart) {new : List ProjectPart} →
       item ≡ Field line name values → FieldSays (field_word name) name (joined_text values) found → new ≡ old ++ placed line found →
       (behind : Tree) (more : List ProjectPart) → Says env behind None more → Goes (λ x. Says env (in_front item behind) chain x) old new more
   unfolding Says
@@ -76,7 +76,7 @@ module _ (env : Env) (line : ℕ) (name args : List ℕ) (items : Tree) (chain :
       let front = package_parts line args items in
       (front ++ more, subst (λ w. Are w (front ++ more)) (sym is) (more, rest, refl), added old front more new-is)
 
-  pub branch_goes : {word : SectionWord} (branch-word : BranchWord) (left : Option Bool) (found old more : List ProjectPart) {new : List ProjectPart} → word ≡ sections.Branch branch-word →
+  pub branch_goes : {word : SectionWord} (branch-word : ProjectBranchWord) (left : Option Bool) (found old more : List ProjectPart) {new : List ProjectPart} → word ≡ sections.Branch branch-word →
       IsBranch env branch-word line args chain Within left found → new ≡ old ++ found → Behind left more → Goes (Are word) old new more
   branch_goes branch-word left found old more is branch new-is rest =
       (found ++ more, subst (λ w. Are w (found ++ more)) (sym is) (left, found, more, branch, rest, refl), added old found more new-is)

@@ -13,10 +13,10 @@ use Rattle.condition_text.specs.Grammar.{Stands, FirstFault}
 use Rattle.conditionals.specs.Value.{flag_in, value}
 use Rattle.conditionals.specs.declared.value.Tri.{Tri}
 use Rattle.conditionals.specs.declared.value.Tri.TheVariants.{Yes, No, Unknown}
-use Rattle.project_file.specs.declared.part.Said.{Said}
-use Rattle.project_file.specs.declared.part.Said.TheVariants.{Bad}
-use Rattle.project_file.specs.declared.words.BranchWord.{BranchWord}
-use Rattle.project_file.specs.declared.words.BranchWord.TheVariants.{If, Elif, Else}
+use Rattle.project_file.specs.declared.part.ProjectSaid.{ProjectSaid}
+use Rattle.project_file.specs.declared.part.ProjectSaid.TheVariants.{Bad}
+use Rattle.project_file.specs.declared.words.ProjectBranchWord.{ProjectBranchWord}
+use Rattle.project_file.specs.declared.words.ProjectBranchWord.TheVariants.{If, Elif, Else}
 use Rattle.text_grammar.specs.Outcome.{Read}
 
 -- one layer of a condition whose parts were tested
@@ -60,7 +60,7 @@ bare [] = Ok true
 bare (b ∷ bs) = Err BadField
 
 -- the value of a branch's own condition, or the cause why it has none
-abbrev pub Decides : Env → BranchWord → List ℕ → Result Bool Cause → Type 0
+abbrev pub Decides : Env → ProjectBranchWord → List ℕ → Result Bool Cause → Type 0
 Decides env If args own = HasValue env args own
 Decides env Elif args own = HasValue env args own
 Decides env Else args own = own ≡ bare args
@@ -72,28 +72,28 @@ holds (Err cause) = false
 
 -- Whether an earlier branch of the chain was taken. The chain is that of a branch directly before; an `if` begins
 -- one.
-abbrev pub was_taken : BranchWord → Option Bool → Bool
+abbrev pub was_taken : ProjectBranchWord → Option Bool → Bool
 was_taken If chain = false
 was_taken Elif chain = unwrap_or chain false
 was_taken Else chain = unwrap_or chain false
 
 -- the first branch of a chain whose condition holds is taken
-abbrev pub is_taken : BranchWord → Option Bool → Result Bool Cause → Bool
+abbrev pub is_taken : ProjectBranchWord → Option Bool → Result Bool Cause → Bool
 is_taken word chain own = holds own && not (was_taken word chain)
 
 -- the chain for a branch directly after; none after an `else`
-abbrev pub chain_behind : BranchWord → Option Bool → Result Bool Cause → Option Bool
+abbrev pub chain_behind : ProjectBranchWord → Option Bool → Result Bool Cause → Option Bool
 chain_behind If chain own = Some (holds own || was_taken If chain)
 chain_behind Elif chain own = Some (holds own || was_taken Elif chain)
 chain_behind Else chain own = None
 
 -- an `if` fits anywhere, the others directly after a branch that isn't an `else`
-abbrev pub fits : BranchWord → Option Bool → Bool
+abbrev pub fits : ProjectBranchWord → Option Bool → Bool
 fits If chain = true
 fits Elif chain = is_some chain
 fits Else chain = is_some chain
 
 -- the fault of a branch: of its condition first, then of its place
-abbrev pub branch_fault : BranchWord → Option Bool → Result Bool Cause → Option Said
+abbrev pub branch_fault : ProjectBranchWord → Option Bool → Result Bool Cause → Option ProjectSaid
 branch_fault word chain (Err cause) = Some (Bad cause)
 branch_fault word chain (Ok value) = if fits word chain then None else Some (Bad ElseWithoutIf)

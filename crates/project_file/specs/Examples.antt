@@ -6,10 +6,10 @@ use Rattle.plan_types.specs.declared.refusal.Cause.TheVariants.{BadField, ElseWi
 use Rattle.project_file.specs.Branches.{bare, branch_fault, chain_behind, is_taken}
 use Rattle.project_file.specs.Flags.{flags_in}
 use Rattle.project_file.specs.Project.{project_from}
-use Rattle.project_file.specs.declared.part.Said.TheVariants as said
+use Rattle.project_file.specs.declared.part.ProjectSaid.TheVariants as said
 use Rattle.project_file.specs.declared.part.Switch.TheVariants.{Tests}
 use Rattle.text_grammar.specs.declared.word.Between.TheVariants.{SpacesAndCommas}
-use Rattle.project_file.specs.declared.words.BranchWord.TheVariants.{Elif, Else}
+use Rattle.project_file.specs.declared.words.ProjectBranchWord.TheVariants.{Elif, Else}
 use Rattle.text_grammar.specs.Words.{words}
 use Rattle.version_range.specs.Number.{limit_of}
 

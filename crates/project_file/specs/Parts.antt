@@ -16,14 +16,14 @@ use Rattle.project_file.specs.Fields.{FieldSays, or_bad}
 use Rattle.project_file.specs.Flags.{flags_in}
 use Rattle.project_file.specs.Words.{field_word, section_word}
 use Rattle.project_file.specs.declared.part.ProjectPart.{ProjectPart}
-use Rattle.project_file.specs.declared.part.Said.{Said}
-use Rattle.project_file.specs.declared.part.Said.TheVariants as said
-use Rattle.project_file.specs.declared.words.BranchWord.{BranchWord}
+use Rattle.project_file.specs.declared.part.ProjectSaid.{ProjectSaid}
+use Rattle.project_file.specs.declared.part.ProjectSaid.TheVariants as said
+use Rattle.project_file.specs.declared.words.ProjectBranchWord.{ProjectBranchWord}
 use Rattle.project_file.specs.declared.words.SectionWord.{SectionWord}
 use Rattle.project_file.specs.declared.words.SectionWord.TheVariants as sections
 
 -- the content at its line, if there is any
-abbrev pub placed : ℕ → Option Said → List ProjectPart
+abbrev pub placed : ℕ → Option ProjectSaid → List ProjectPart
 placed line None = []
 placed line (Some found) = record { line = line; said = found } ∷ []
 
@@ -34,11 +34,11 @@ abbrev pub is_every : List ℕ → Bool
 is_every args = same_text args (codes "*")
 
 -- the flags of a package as a constraint at top level
-abbrev pub said_flags : List ℕ → List FlagSet → Said
+abbrev pub said_flags : List ℕ → List FlagSet → ProjectSaid
 said_flags args flags = said.Constraints (record { scope = Top; «package» = args; what = Flags flags } ∷ [])
 
 -- the content of a `flags` field
-abbrev pub flags_said : List ℕ → List ℕ → Said
+abbrev pub flags_said : List ℕ → List ℕ → ProjectSaid
 flags_said args text = if is_every args then said.Bad Unsupported else or_bad (said_flags args) (flags_in text)
 
 -- the part of a field in a `package` section
@@ -65,7 +65,7 @@ IfTaken true Within found = Within found
 IfTaken false Within found = found ≡ []
 
 -- a branch with its parts, and the chain for what is after it
-pub record IsBranch (env : Env) (word : BranchWord) (line : ℕ) (args : List ℕ) (chain : Option Bool) (Within : List ProjectPart → Type 0) (left : Option Bool) (found : List ProjectPart) : Type 0 where
+pub record IsBranch (env : Env) (word : ProjectBranchWord) (line : ℕ) (args : List ℕ) (chain : Option Bool) (Within : List ProjectPart → Type 0) (left : Option Bool) (found : List ProjectPart) : Type 0 where
   pub own : Result Bool Cause
   pub within : List ProjectPart
   pub decides : Decides env word args own
@@ -91,7 +91,7 @@ SectionSays env sections.Unread line name args items chain Within Behind parts =
 unfoldable pub Says : Env → Tree → Option Bool → List ProjectPart → Type 0
 Says env end chain parts = parts ≡ []
 Says env (field line name values behind) chain parts =
-    (found : Option Said) × (more : List ProjectPart) × FieldSays (field_word name) name (joined_text values) found
+    (found : Option ProjectSaid) × (more : List ProjectPart) × FieldSays (field_word name) name (joined_text values) found
     × Says env behind None more × (parts ≡ placed line found ++ more)
 Says env (section line name args items behind) chain parts =
     SectionSays env (section_word name) line name args items chain (λ within. Says env items None within) (λ left more. Says env behind left more) parts

@@ -10,8 +10,8 @@ use Rattle.plan_types.specs.declared.project.Project.{Project}
 use Rattle.plan_types.specs.declared.project.ProjectEntry.{ProjectEntry}
 use Rattle.text_grammar.specs.Last.{last_given}
 use Rattle.project_file.specs.declared.part.ProjectPart.{ProjectPart}
-use Rattle.project_file.specs.declared.part.Said.{Said}
-use Rattle.project_file.specs.declared.part.Said.TheVariants as said
+use Rattle.project_file.specs.declared.part.ProjectSaid.{ProjectSaid}
+use Rattle.project_file.specs.declared.part.ProjectSaid.TheVariants as said
 use Rattle.project_file.specs.declared.part.Switch.{Switch}
 use Rattle.project_file.specs.declared.part.Switch.TheVariants.{Tests, Benchmarks, PreferOldest, BootInstalls}
 
@@ -19,7 +19,7 @@ use Rattle.project_file.specs.declared.part.Switch.TheVariants.{Tests, Benchmark
 pub record Placed : Type 0 where
   pub path : List ℕ
   pub line : ℕ
-  pub said : Said
+  pub said : ProjectSaid
 
 -- a part of the file at this path
 abbrev pub placed_at : List ℕ → ProjectPart → Placed
@@ -73,7 +73,7 @@ switched PreferOldest on = record nothing { prefer_oldest = Some on }
 switched BootInstalls on = record nothing { boot_installs = Some on }
 
 -- the values of some content at a line of a file
-abbrev pub given_at : List ℕ → ℕ → Said → Given
+abbrev pub given_at : List ℕ → ℕ → ProjectSaid → Given
 given_at path line (said.Entries texts optional) = record nothing { entries = entries_at path line texts optional }
 given_at path line (said.Extra extra) = record nothing { extra = extra }
 given_at path line (said.Constraints constraints) = record nothing { constraints = constraints }

@@ -7,24 +7,24 @@ use Rattle.project_file.specs.Project.{Placed, placed_all, project_from}
 use Rattle.project_file.specs.Texts.{Reads}
 use Rattle.project_file.specs.declared.part.ProjectPart.{ProjectPart}
 use Rattle.project_file.specs.declared.read.ProjectText.{ProjectText}
-use Rattle.project_file.specs.declared.text.At.{At}
+use Rattle.project_file.specs.declared.text.FaultLine.{FaultLine}
 
 -- a project file has at most 1,048,576 bytes
 abbrev pub IsWithin : ProjectText → Type 0
 IsWithin text = length text.bytes ≤ 1048576
 
 -- the refusal of a fault in a file
-abbrev pub refusal_at : List ℕ → At → Refusal
+abbrev pub refusal_at : List ℕ → FaultLine → Refusal
 refusal_at path at = record { path = path; line = at.line; cause = at.cause; detail = [] }
 
 -- the parts of a file, or the refusal of its fault
-abbrev pub or_refusal : List ℕ → Result (List ProjectPart) At → Result (List ProjectPart) Refusal
+abbrev pub or_refusal : List ℕ → Result (List ProjectPart) FaultLine → Result (List ProjectPart) Refusal
 or_refusal path (Ok parts) = Ok parts
 or_refusal path (Err at) = Err (refusal_at path at)
 
 -- the parts of a file, or the refusal of its first fault
 abbrev pub FileReads : Env → ProjectText → Result (List ProjectPart) Refusal → Type 0
-FileReads env text outcome = (read : Result (List ProjectPart) At) × Reads env text.bytes read × (outcome ≡ or_refusal text.path read)
+FileReads env text outcome = (read : Result (List ProjectPart) FaultLine) × Reads env text.bytes read × (outcome ≡ or_refusal text.path read)
 
 -- parts before those of later files
 abbrev pub in_front : List Placed → Result (List Placed) Refusal → Result (List Placed) Refusal

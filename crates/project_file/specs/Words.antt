@@ -1,16 +1,16 @@
 -- The fields and sections of a project file, by their names.
 use Rattle.std.specs.Prelude.{ℕ, if◌then◌else◌, List, codes}
 use Rattle.project_file.specs.declared.part.Switch.TheVariants as switch
-use Rattle.project_file.specs.declared.words.BranchWord.TheVariants.{If, Elif, Else}
+use Rattle.project_file.specs.declared.words.ProjectBranchWord.TheVariants.{If, Elif, Else}
 use Rattle.project_file.specs.declared.words.FieldKind.TheVariants as kinds
-use Rattle.project_file.specs.declared.words.FieldWord.{FieldWord}
-use Rattle.project_file.specs.declared.words.FieldWord.TheVariants as fields
+use Rattle.project_file.specs.declared.words.ProjectFieldWord.{ProjectFieldWord}
+use Rattle.project_file.specs.declared.words.ProjectFieldWord.TheVariants as fields
 use Rattle.project_file.specs.declared.words.SectionWord.{SectionWord}
 use Rattle.plan_types.specs.Bytes.{same_text}
 use Rattle.project_file.specs.declared.words.SectionWord.TheVariants as sections
 
 -- the field of a name
-abbrev pub field_word : List ℕ → FieldWord
+abbrev pub field_word : List ℕ → ProjectFieldWord
 field_word name =
     if same_text name (codes "packages") then fields.Read kinds.Packages
     else if same_text name (codes "optional-packages") then fields.Read kinds.OptionalPackages

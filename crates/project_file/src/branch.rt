@@ -2,8 +2,8 @@
 ghost use Rattle.std.specs.Prelude.{◌≡◌, ◌||◌, ◌&&◌, not, IfOk};
 ghost use Rattle.project_file.specs.Branches.{Decides, HasValue, bare, branch_fault, chain_behind, decided, fits, has_flag, holds, is_taken, is_yes, was_taken};
 
-use crate::part::Said;
-use crate::words::BranchWord;
+use crate::part::ProjectSaid;
+use crate::words::ProjectBranchWord;
 use condition_text::read_cond;
 use conditionals::{Tri, eval};
 use plan_types::{Cause, Cond, Env, List, NoMemory, Spec, Text, TextFault};
@@ -13,14 +13,14 @@ use std::alloc::Global;
 pub(crate) fn own_condition(
     alloc: Global,
     env: &Env,
-    word: BranchWord,
+    word: ProjectBranchWord,
     args: &Text,
 ) -> Result<Result<bool, Cause>, NoMemory>
     ensures { IfOk result (Decides env.now word args.now) }
 {
     match word {
-        BranchWord::If | BranchWord::Elif => settled(alloc, env, args),
-        BranchWord::Else => Ok(bare(args.as_bytes())),
+        ProjectBranchWord::If | ProjectBranchWord::Elif => settled(alloc, env, args),
+        ProjectBranchWord::Else => Ok(bare(args.as_bytes())),
     }
 }
 
@@ -96,12 +96,12 @@ fn has_flag(cond: &Cond) -> bool
 }
 
 /// Whether an earlier branch of the chain was taken. The chain is that of the branch directly before.
-fn was_taken(word: BranchWord, chain: Option<bool>) -> bool
+fn was_taken(word: ProjectBranchWord, chain: Option<bool>) -> bool
     ensures { result ≡ was_taken word chain }
 {
     match word {
-        BranchWord::If => false,
-        BranchWord::Elif | BranchWord::Else => chain.unwrap_or(false),
+        ProjectBranchWord::If => false,
+        ProjectBranchWord::Elif | ProjectBranchWord::Else => chain.unwrap_or(false),
     }
 }
 
@@ -115,7 +115,7 @@ fn holds(own: Result<bool, Cause>) -> bool
 }
 
 /// Whether the items inside the branch are read.
-pub(crate) fn is_taken(word: BranchWord, chain: Option<bool>, own: Result<bool, Cause>) -> bool
+pub(crate) fn is_taken(word: ProjectBranchWord, chain: Option<bool>, own: Result<bool, Cause>) -> bool
     ensures { result ≡ is_taken word chain own }
 {
     holds(own) && !was_taken(word, chain)
@@ -123,42 +123,42 @@ pub(crate) fn is_taken(word: BranchWord, chain: Option<bool>, own: Result<bool, 
 
 /// Whether a branch of the chain was taken, for the branch directly after. None ends the chain.
 pub(crate) fn chain_behind(
-    word: BranchWord,
+    word: ProjectBranchWord,
     chain: Option<bool>,
     own: Result<bool, Cause>,
 ) -> Option<bool>
     ensures { result ≡ chain_behind word chain own }
 {
     match word {
-        BranchWord::If | BranchWord::Elif => Some(holds(own) || was_taken(word, chain)),
-        BranchWord::Else => None,
+        ProjectBranchWord::If | ProjectBranchWord::Elif => Some(holds(own) || was_taken(word, chain)),
+        ProjectBranchWord::Else => None,
     }
 }
 
-fn fits(word: BranchWord, chain: Option<bool>) -> bool
+fn fits(word: ProjectBranchWord, chain: Option<bool>) -> bool
     ensures { result ≡ fits word chain }
 {
     match word {
-        BranchWord::If => true,
-        BranchWord::Elif | BranchWord::Else => chain.is_some(),
+        ProjectBranchWord::If => true,
+        ProjectBranchWord::Elif | ProjectBranchWord::Else => chain.is_some(),
     }
 }
 
 /// The fault of a branch: its condition has no value, or else it isn't allowed here.
 pub(crate) fn branch_fault(
-    word: BranchWord,
+    word: ProjectBranchWord,
     chain: Option<bool>,
     own: Result<bool, Cause>,
-) -> Option<Said>
+) -> Option<ProjectSaid>
     ensures { result ≡ branch_fault word chain own }
 {
     match own {
-        Err(cause) => Some(Said::Bad(cause)),
+        Err(cause) => Some(ProjectSaid::Bad(cause)),
         Ok(_) => {
             if fits(word, chain) {
                 None
             } else {
-                Some(Said::Bad(Cause::ElseWithoutIf))
+                Some(ProjectSaid::Bad(Cause::ElseWithoutIf))
             }
         }
     }

@@ -9,8 +9,8 @@ ghost use Rattle.project_file.specs.Fields.{FieldSays, IsRead, KindSays, or_bad,
 ghost use Rattle.text_grammar.specs.Words.{words};
 ghost use Rattle.version_range.specs.Number.{limit_of};
 
-use crate::part::{Said, Switch};
-use crate::words::{FieldKind, FieldWord, field_word};
+use crate::part::{ProjectSaid, Switch};
+use crate::words::{FieldKind, ProjectFieldWord, field_word};
 use constraint_text::{read_constraints, read_named, read_relax};
 use plan_types::{Cause, List, NoMemory, Text, TextFault, joined_text};
 use std::alloc::Global;
@@ -22,22 +22,22 @@ pub(crate) fn said_by(
     alloc: Global,
     name: &Text,
     values: &List<Text>,
-) -> Result<Option<Said>, NoMemory>
+) -> Result<Option<ProjectSaid>, NoMemory>
     ensures { IfOk result (FieldSays (field_word name.now) name.now (joined_text values.now)) }
 {
     match field_word(name.as_str()) {
-        FieldWord::Read(kind) => {
+        ProjectFieldWord::Read(kind) => {
             let text = joined_text(alloc, values.as_slice())?;
             let said = said_as(alloc, kind, &text)?;
             Ok(Some(said))
         }
-        FieldWord::Warned => Ok(Some(Said::Warning(name.copy()?))),
-        FieldWord::Unsupported => Ok(Some(Said::Bad(Cause::Unsupported))),
-        FieldWord::Unread => Ok(None),
+        ProjectFieldWord::Warned => Ok(Some(ProjectSaid::Warning(name.copy()?))),
+        ProjectFieldWord::Unsupported => Ok(Some(ProjectSaid::Bad(Cause::Unsupported))),
+        ProjectFieldWord::Unread => Ok(None),
     }
 }
 
-fn said_as(alloc: Global, kind: FieldKind, text: &Text) -> Result<Said, NoMemory>
+fn said_as(alloc: Global, kind: FieldKind, text: &Text) -> Result<ProjectSaid, NoMemory>
     ensures { IfOk result (KindSays kind text.now) }
 {
     match kind {
@@ -53,77 +53,77 @@ fn said_as(alloc: Global, kind: FieldKind, text: &Text) -> Result<Said, NoMemory
     }
 }
 
-fn entries(alloc: Global, text: &Text, optional: bool) -> Result<Said, NoMemory>
-    ensures { IfOk result (λ said. said ≡ Said.Entries (words Between.SpacesAndCommas text.now) optional) }
+fn entries(alloc: Global, text: &Text, optional: bool) -> Result<ProjectSaid, NoMemory>
+    ensures { IfOk result (λ said. said ≡ ProjectSaid.Entries (words Between.SpacesAndCommas text.now) optional) }
 {
     let texts = words(alloc, Between::SpacesAndCommas, text.as_str())?;
-    Ok(Said::Entries { texts, optional })
+    Ok(ProjectSaid::Entries { texts, optional })
 }
 
-fn extra(alloc: Global, text: &Text) -> Result<Said, NoMemory>
-    ensures { IfOk result (IsRead Said.Extra (NamedRanges text.now) (NamedFault text.now)) }
+fn extra(alloc: Global, text: &Text) -> Result<ProjectSaid, NoMemory>
+    ensures { IfOk result (IsRead ProjectSaid.Extra (NamedRanges text.now) (NamedFault text.now)) }
 {
     match read_named(alloc, text.as_bytes()) {
-        Ok(found) => Ok(Said::Extra(found)),
-        Err(TextFault::Bad(cause)) => Ok(Said::Bad(cause)),
+        Ok(found) => Ok(ProjectSaid::Extra(found)),
+        Err(TextFault::Bad(cause)) => Ok(ProjectSaid::Bad(cause)),
         Err(TextFault::NoMemory) => Err(NoMemory),
     }
 }
 
-fn constraints(alloc: Global, text: &Text) -> Result<Said, NoMemory>
-    ensures { IfOk result (IsRead Said.Constraints (Constraints text.now) (ConstraintsFault text.now)) }
+fn constraints(alloc: Global, text: &Text) -> Result<ProjectSaid, NoMemory>
+    ensures { IfOk result (IsRead ProjectSaid.Constraints (Constraints text.now) (ConstraintsFault text.now)) }
 {
     match read_constraints(alloc, text.as_bytes()) {
-        Ok(found) => Ok(Said::Constraints(found)),
-        Err(TextFault::Bad(cause)) => Ok(Said::Bad(cause)),
+        Ok(found) => Ok(ProjectSaid::Constraints(found)),
+        Err(TextFault::Bad(cause)) => Ok(ProjectSaid::Bad(cause)),
         Err(TextFault::NoMemory) => Err(NoMemory),
     }
 }
 
-fn preferences(alloc: Global, text: &Text) -> Result<Said, NoMemory>
-    ensures { IfOk result (IsRead Said.Preferences (NamedRanges text.now) (NamedFault text.now)) }
+fn preferences(alloc: Global, text: &Text) -> Result<ProjectSaid, NoMemory>
+    ensures { IfOk result (IsRead ProjectSaid.Preferences (NamedRanges text.now) (NamedFault text.now)) }
 {
     match read_named(alloc, text.as_bytes()) {
-        Ok(found) => Ok(Said::Preferences(found)),
-        Err(TextFault::Bad(cause)) => Ok(Said::Bad(cause)),
+        Ok(found) => Ok(ProjectSaid::Preferences(found)),
+        Err(TextFault::Bad(cause)) => Ok(ProjectSaid::Bad(cause)),
         Err(TextFault::NoMemory) => Err(NoMemory),
     }
 }
 
-fn newer(alloc: Global, text: &Text) -> Result<Said, NoMemory>
-    ensures { IfOk result (IsRead Said.Newer (Relaxes text.now) (RelaxFault text.now)) }
+fn newer(alloc: Global, text: &Text) -> Result<ProjectSaid, NoMemory>
+    ensures { IfOk result (IsRead ProjectSaid.Newer (Relaxes text.now) (RelaxFault text.now)) }
 {
     match read_relax(alloc, text.as_bytes()) {
-        Ok(found) => Ok(Said::Newer(found)),
-        Err(TextFault::Bad(cause)) => Ok(Said::Bad(cause)),
+        Ok(found) => Ok(ProjectSaid::Newer(found)),
+        Err(TextFault::Bad(cause)) => Ok(ProjectSaid::Bad(cause)),
         Err(TextFault::NoMemory) => Err(NoMemory),
     }
 }
 
-fn older(alloc: Global, text: &Text) -> Result<Said, NoMemory>
-    ensures { IfOk result (IsRead Said.Older (Relaxes text.now) (RelaxFault text.now)) }
+fn older(alloc: Global, text: &Text) -> Result<ProjectSaid, NoMemory>
+    ensures { IfOk result (IsRead ProjectSaid.Older (Relaxes text.now) (RelaxFault text.now)) }
 {
     match read_relax(alloc, text.as_bytes()) {
-        Ok(found) => Ok(Said::Older(found)),
-        Err(TextFault::Bad(cause)) => Ok(Said::Bad(cause)),
+        Ok(found) => Ok(ProjectSaid::Older(found)),
+        Err(TextFault::Bad(cause)) => Ok(ProjectSaid::Bad(cause)),
         Err(TextFault::NoMemory) => Err(NoMemory),
     }
 }
 
-fn switch_said(which: Switch, value: Option<bool>) -> Said
+fn switch_said(which: Switch, value: Option<bool>) -> ProjectSaid
     ensures { result ≡ switch_said which value }
 {
     match value {
-        Some(on) => Said::Switch { which, on },
-        None => Said::Bad(Cause::BadField),
+        Some(on) => ProjectSaid::Switch { which, on },
+        None => ProjectSaid::Bad(Cause::BadField),
     }
 }
 
-fn limit_said(text: &[u8]) -> Said
-    ensures { result ≡ or_bad Said.Limit (limit_of text.now) }
+fn limit_said(text: &[u8]) -> ProjectSaid
+    ensures { result ≡ or_bad ProjectSaid.Limit (limit_of text.now) }
 {
     match limit_of(text) {
-        Some(limit) => Said::Limit(limit),
-        None => Said::Bad(Cause::BadField),
+        Some(limit) => ProjectSaid::Limit(limit),
+        None => ProjectSaid::Bad(Cause::BadField),
     }
 }

@@ -6,7 +6,7 @@ ghost use Rattle.cabal_lexer.specs.Tree.{tree_of};
 ghost use Rattle.project_file.specs.Parts.{FlagsAdded, flag_part, flag_parts, flags_said, is_every, package_parts, said_flags};
 
 use crate::flags::flags_in;
-use crate::part::{ProjectPart, Said};
+use crate::part::{ProjectPart, ProjectSaid};
 use plan_types::{
     Cause, Constraint, Element, FlagSet, List, NoMemory, Scope, Text, What, is_package_name,
     joined_text,
@@ -28,7 +28,7 @@ pub(crate) fn read_package(
     } else {
         parts.push(ProjectPart {
             line,
-            said: Said::Bad(Cause::BadName),
+            said: ProjectSaid::Bad(Cause::BadName),
         })
     }
 }
@@ -98,20 +98,20 @@ fn read_field(
     parts.push(ProjectPart { line, said })
 }
 
-fn flags_said(alloc: Global, args: &Text, text: &Text) -> Result<Said, NoMemory>
+fn flags_said(alloc: Global, args: &Text, text: &Text) -> Result<ProjectSaid, NoMemory>
     ensures { IfOk result (λ said. said ≡ flags_said args.now text.now) }
 {
     if is_every(args) {
-        return Ok(Said::Bad(Cause::Unsupported));
+        return Ok(ProjectSaid::Bad(Cause::Unsupported));
     }
     match flags_in(alloc, text)? {
         Some(flags) => flag_constraint(alloc, args, flags),
-        None => Ok(Said::Bad(Cause::BadField)),
+        None => Ok(ProjectSaid::Bad(Cause::BadField)),
     }
 }
 
 // The flags as a constraint at top level.
-fn flag_constraint(alloc: Global, args: &Text, flags: List<FlagSet>) -> Result<Said, NoMemory>
+fn flag_constraint(alloc: Global, args: &Text, flags: List<FlagSet>) -> Result<ProjectSaid, NoMemory>
     ensures { IfOk result (λ said. said ≡ said_flags args.now flags) }
 {
     let package = args.copy()?;
@@ -121,5 +121,5 @@ fn flag_constraint(alloc: Global, args: &Text, flags: List<FlagSet>) -> Result<S
         package,
         what: What::Flags(flags),
     })?;
-    Ok(Said::Constraints(constraints))
+    Ok(ProjectSaid::Constraints(constraints))
 }

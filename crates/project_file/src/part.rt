@@ -12,7 +12,7 @@ pub(crate) enum Switch {
 
 /// The content of a field or section.
 #[derive(Debug, Drop)]
-pub(crate) enum Said {
+pub(crate) enum ProjectSaid {
     /// Entries of `packages`, or of `optional-packages`, which may match nothing.
     Entries { texts: List<Text>, optional: bool },
     Extra(List<Named>),
@@ -33,5 +33,5 @@ pub(crate) enum Said {
 pub(crate) struct ProjectPart {
     /// From 1.
     pub line: u32,
-    pub said: Said,
+    pub said: ProjectSaid,
 }

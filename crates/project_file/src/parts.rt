@@ -6,8 +6,8 @@ ghost use Rattle.project_file.specs.Parts.{Adds, IfTaken, IsBranch, ItemAdds, Sa
 use crate::branch::{branch_fault, chain_behind, is_taken, own_condition};
 use crate::field::said_by;
 use crate::package::read_package;
-use crate::part::{ProjectPart, Said};
-use crate::words::{BranchWord, SectionWord, section_word};
+use crate::part::{ProjectPart, ProjectSaid};
+use crate::words::{ProjectBranchWord, SectionWord, section_word};
 use plan_types::{Cause, Element, Env, List, NoMemory, Text};
 use std::alloc::Global;
 
@@ -80,7 +80,7 @@ fn read_item(
     }
 }
 
-fn place(line: u32, said: Option<Said>, parts: &mut List<ProjectPart>) -> Result<(), NoMemory>
+fn place(line: u32, said: Option<ProjectSaid>, parts: &mut List<ProjectPart>) -> Result<(), NoMemory>
     ensures { OnOk result (parts.new ≡ parts.old ++ placed line said) }
 {
     match said {
@@ -107,12 +107,12 @@ fn read_section(
     match word {
         SectionWord::Unread => Ok(None),
         SectionWord::Unsupported => {
-            place(line, Some(Said::Bad(Cause::Unsupported)), parts)?;
+            place(line, Some(ProjectSaid::Bad(Cause::Unsupported)), parts)?;
             Ok(None)
         }
         SectionWord::Warned => {
             let name = name.copy()?;
-            place(line, Some(Said::Warning(name)), parts)?;
+            place(line, Some(ProjectSaid::Warning(name)), parts)?;
             Ok(None)
         }
         SectionWord::Package => {
@@ -130,7 +130,7 @@ fn read_section(
 fn read_branch(
     alloc: Global,
     env: &Env,
-    word: BranchWord,
+    word: ProjectBranchWord,
     line: u32,
     args: &Text,
     items: &[Element],

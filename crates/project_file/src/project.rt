@@ -2,7 +2,7 @@
 ghost use Rattle.std.specs.Prelude.{◌≡◌, ◌++◌, ◌∷◌, [], List, OnOk};
 ghost use Rattle.project_file.specs.Project.{AddsParts, entries_at, placed_all, placed_at, project_from, with_switch};
 
-use crate::part::{ProjectPart, Said, Switch};
+use crate::part::{ProjectPart, ProjectSaid, Switch};
 use plan_types::{Limit, List, NoMemory, Project, ProjectEntry, Text, Warning};
 use std::alloc::Global;
 
@@ -45,24 +45,24 @@ fn take(project: &mut Project, path: &Text, part: ProjectPart) -> Result<(), NoM
 {
     let ProjectPart { line, said } = part;
     match said {
-        Said::Entries { texts, optional } => {
+        ProjectSaid::Entries { texts, optional } => {
             push_entries(&mut project.entries, path, line, texts, optional)
         }
-        Said::Extra(mut found) => project.extra.append(&mut found),
-        Said::Constraints(mut found) => project.constraints.append(&mut found),
-        Said::Preferences(mut found) => project.preferences.append(&mut found),
-        Said::Newer(mut found) => project.newer.append(&mut found),
-        Said::Older(mut found) => project.older.append(&mut found),
-        Said::Switch { which, on } => {
+        ProjectSaid::Extra(mut found) => project.extra.append(&mut found),
+        ProjectSaid::Constraints(mut found) => project.constraints.append(&mut found),
+        ProjectSaid::Preferences(mut found) => project.preferences.append(&mut found),
+        ProjectSaid::Newer(mut found) => project.newer.append(&mut found),
+        ProjectSaid::Older(mut found) => project.older.append(&mut found),
+        ProjectSaid::Switch { which, on } => {
             turn(project, which, on);
             Ok(())
         }
-        Said::Limit(limit) => {
+        ProjectSaid::Limit(limit) => {
             project.limit = limit;
             Ok(())
         }
-        Said::Warning(word) => warn(&mut project.warnings, path, line, word),
-        Said::Bad(_) => Ok(()),
+        ProjectSaid::Warning(word) => warn(&mut project.warnings, path, line, word),
+        ProjectSaid::Bad(_) => Ok(()),
     }
 }
 

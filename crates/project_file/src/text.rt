@@ -3,7 +3,7 @@ ghost use Rattle.std.specs.Prelude.{◌≡◌, ◌≤◌, length, Ok, Err, IfOk,
 ghost use Rattle.plan_types.specs.Refusal.{RefusesAt};
 ghost use Rattle.project_file.specs.Texts.{Reads, bad_cause, fault_at, first_fault};
 
-use crate::part::{ProjectPart, Said};
+use crate::part::{ProjectPart, ProjectSaid};
 use crate::parts::read_parts;
 use cabal_lexer::read_elements;
 use plan_types::{Cause, Env, Fault, List};
@@ -11,7 +11,7 @@ use std::alloc::Global;
 
 /// A cause and its line.
 #[derive(Clone, Copy, Debug, PartialEq, Eq)]
-pub(crate) struct At {
+pub(crate) struct FaultLine {
     pub line: u32,
     pub cause: Cause,
 }
@@ -35,12 +35,12 @@ pub(crate) fn read_text(alloc: Global, env: &Env, bytes: &[u8]) -> Result<List<P
 }
 
 // The first bad part, since lines rise from part to part.
-fn first_fault(parts: &[ProjectPart]) -> Option<At>
+fn first_fault(parts: &[ProjectPart]) -> Option<FaultLine>
     ensures { result ≡ first_fault parts.now }
 {
     for part in parts {
         if let Some(cause) = bad_cause(&part.said) {
-            return Some(At {
+            return Some(FaultLine {
                 line: part.line,
                 cause,
             });
@@ -49,11 +49,11 @@ fn first_fault(parts: &[ProjectPart]) -> Option<At>
     None
 }
 
-fn bad_cause(said: &Said) -> Option<Cause>
+fn bad_cause(said: &ProjectSaid) -> Option<Cause>
     ensures { result ≡ bad_cause said.now }
 {
     match said {
-        Said::Bad(cause) => Some(*cause),
+        ProjectSaid::Bad(cause) => Some(*cause),
         _ => None,
     }
 }

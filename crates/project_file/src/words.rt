@@ -6,7 +6,7 @@ use crate::part::Switch;
 
 /// A field, by its name.
 #[derive(Clone, Copy, Debug, PartialEq, Eq)]
-pub(crate) enum FieldWord {
+pub(crate) enum ProjectFieldWord {
     Read(FieldKind),
     Warned,
     Unsupported,
@@ -30,7 +30,7 @@ pub(crate) enum FieldKind {
 /// A section, by its name.
 #[derive(Clone, Copy, Debug, PartialEq, Eq)]
 pub(crate) enum SectionWord {
-    Branch(BranchWord),
+    Branch(ProjectBranchWord),
     Package,
     Warned,
     Unsupported,
@@ -39,34 +39,34 @@ pub(crate) enum SectionWord {
 
 /// A branch.
 #[derive(Clone, Copy, Debug, PartialEq, Eq)]
-pub(crate) enum BranchWord {
+pub(crate) enum ProjectBranchWord {
     If,
     Elif,
     Else,
 }
 
-pub(crate) fn field_word(name: &str) -> FieldWord
+pub(crate) fn field_word(name: &str) -> ProjectFieldWord
     ensures { result ≡ field_word name.now }
 {
     match name {
-        "packages" => FieldWord::Read(FieldKind::Packages),
-        "optional-packages" => FieldWord::Read(FieldKind::OptionalPackages),
-        "extra-packages" => FieldWord::Read(FieldKind::Extra),
-        "constraints" => FieldWord::Read(FieldKind::Constraints),
-        "preferences" => FieldWord::Read(FieldKind::Preferences),
-        "allow-newer" => FieldWord::Read(FieldKind::Newer),
-        "allow-older" => FieldWord::Read(FieldKind::Older),
-        "tests" => FieldWord::Read(FieldKind::Switch(Switch::Tests)),
-        "benchmarks" => FieldWord::Read(FieldKind::Switch(Switch::Benchmarks)),
-        "prefer-oldest" => FieldWord::Read(FieldKind::Switch(Switch::PreferOldest)),
+        "packages" => ProjectFieldWord::Read(FieldKind::Packages),
+        "optional-packages" => ProjectFieldWord::Read(FieldKind::OptionalPackages),
+        "extra-packages" => ProjectFieldWord::Read(FieldKind::Extra),
+        "constraints" => ProjectFieldWord::Read(FieldKind::Constraints),
+        "preferences" => ProjectFieldWord::Read(FieldKind::Preferences),
+        "allow-newer" => ProjectFieldWord::Read(FieldKind::Newer),
+        "allow-older" => ProjectFieldWord::Read(FieldKind::Older),
+        "tests" => ProjectFieldWord::Read(FieldKind::Switch(Switch::Tests)),
+        "benchmarks" => ProjectFieldWord::Read(FieldKind::Switch(Switch::Benchmarks)),
+        "prefer-oldest" => ProjectFieldWord::Read(FieldKind::Switch(Switch::PreferOldest)),
         "allow-boot-library-installs" => {
-            FieldWord::Read(FieldKind::Switch(Switch::BootInstalls))
+            ProjectFieldWord::Read(FieldKind::Switch(Switch::BootInstalls))
         }
-        "max-backjumps" => FieldWord::Read(FieldKind::Limit),
-        "index-state" => FieldWord::Warned,
-        "active-repositories" => FieldWord::Warned,
-        "import" => FieldWord::Unsupported,
-        _ => FieldWord::Unread,
+        "max-backjumps" => ProjectFieldWord::Read(FieldKind::Limit),
+        "index-state" => ProjectFieldWord::Warned,
+        "active-repositories" => ProjectFieldWord::Warned,
+        "import" => ProjectFieldWord::Unsupported,
+        _ => ProjectFieldWord::Unread,
     }
 }
 
@@ -74,9 +74,9 @@ pub(crate) fn section_word(name: &str) -> SectionWord
     ensures { result ≡ section_word name.now }
 {
     match name {
-        "if" => SectionWord::Branch(BranchWord::If),
-        "elif" => SectionWord::Branch(BranchWord::Elif),
-        "else" => SectionWord::Branch(BranchWord::Else),
+        "if" => SectionWord::Branch(ProjectBranchWord::If),
+        "elif" => SectionWord::Branch(ProjectBranchWord::Elif),
+        "else" => SectionWord::Branch(ProjectBranchWord::Else),
         "package" => SectionWord::Package,
         "repository" => SectionWord::Warned,
         "source-repository-package" => SectionWord::Unsupported,

@@ -18,7 +18,7 @@ use Rattle.qualified_goals.specs.declared.variable.Part.TheVariants.{Flag, Tests
 use Rattle.qualified_goals.specs.Names.{Name, NameTable}
 use Rattle.solver_index.specs.declared.dependencies.Dependencies.{Dependencies}
 use Rattle.solver_index.specs.declared.dependencies.ConditionalDep.{ConditionalDep}
-use Rattle.solver_index.specs.declared.dependencies.Need.{Need}
+use Rattle.solver_index.specs.declared.dependencies.UnitNeed.{UnitNeed}
 use Rattle.solver_index.specs.declared.dependencies.Setting.{Setting}
 use Rattle.solver_index.specs.declared.dependencies.Target.{Target}
 use Rattle.solver_index.specs.Allowed.{allowed_by, allowed_unit}
@@ -58,14 +58,14 @@ conditional_dep packages names allows flat = record {
 }
 
 -- the unit with an id, of the package with a name
-abbrev pub need_of : List Package → NameTable → Name → Name → Need
+abbrev pub need_of : List Package → NameTable → Name → Name → UnitNeed
 need_of packages names id name = record {
   «package» = number packages names name;
   allowed = allowed_unit id (package_at packages (number packages names name));
 }
 
 -- the k-th unit that a record needs
-abbrev pub need_at : List Package → NameTable → List Name → List Name → ℕ → Need
+abbrev pub need_at : List Package → NameTable → List Name → List Name → ℕ → UnitNeed
 need_at packages names ids needs k = need_of packages names (slice_index_or ids k []) (slice_index_or needs k [])
 
 -- what a source instance depends on

@@ -14,7 +14,7 @@ use Rattle.constraint_set.specs.Stands.{Represents}
 use Rattle.qualified_goals.specs.Names.{Name}
 use Rattle.solver_index.specs.declared.dependencies.ConditionalDep.{ConditionalDep}
 use Rattle.solver_index.specs.declared.dependencies.Dependencies.{Dependencies}
-use Rattle.solver_index.specs.declared.dependencies.Need.{Need}
+use Rattle.solver_index.specs.declared.dependencies.UnitNeed.{UnitNeed}
 use Rattle.solver_index.specs.declared.dependencies.Target.{Target}
 use Rattle.solver_index.specs.declared.sources.Sources.{Sources}
 use Rattle.solver_index.specs.AllowedVersions.{allowed_versions}
@@ -38,11 +38,11 @@ abbrev pub dep_in : Sources → Instance → FlatDep → ConditionalDep
 dep_in s owner = conditional_dep s.packages.now s.names.now (allowed_versions s.project.now owner)
 
 -- the unit with an id, of the package with a name
-abbrev pub need_in : Sources → Name → Name → Need
+abbrev pub need_in : Sources → Name → Name → UnitNeed
 need_in s = need_of s.packages.now s.names.now
 
 -- the units with these ids
-abbrev pub needs_in : Sources → List Name → List Name → List Need
+abbrev pub needs_in : Sources → List Name → List Name → List UnitNeed
 needs_in s ids names = map (need_at s.packages.now s.names.now ids names) (rising (length names))
 
 -- what a source instance depends on

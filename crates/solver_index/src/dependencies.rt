@@ -27,7 +27,7 @@ pub struct ConditionalDep {
 
 /// The package of a unit that another one needs, and the place of that unit.
 #[derive(Debug, Drop)]
-pub struct Need {
+pub struct UnitNeed {
     pub package: u64,
     pub allowed: List<u64>,
 }
@@ -39,7 +39,7 @@ pub struct Dependencies {
     pub flags: List<u64>,
     pub deps: List<ConditionalDep>,
     pub setup: List<Target>,
-    pub needs: List<Need>,
+    pub needs: List<UnitNeed>,
 }
 
 // Explicit, so that it is proved once: a derived one is expanded at each exit.

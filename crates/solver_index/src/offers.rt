@@ -6,7 +6,7 @@ ghost use Rattle.solver_index.specs.PlaceRuns.{places_in};
 ghost use Rattle.solver_index.specs.Allowed.{allowed_in, has_at, has_exe, has_for, has_lib, is_lib};
 ghost use Rattle.plan_types.specs.Bytes.{same_text};
 
-use crate::place_runs::{PlaceRuns, Run};
+use crate::place_runs::{PlaceRuns, PlaceRun};
 use plan_types::{Body, Dep, DepKind, Entry, LibName, List, NoMemory, Range, Text};
 use std::alloc::Global;
 
@@ -27,7 +27,7 @@ fn allowed_of(
     alloc: Global,
     kind: DepKind,
     dep: &Dep,
-    runs: &[Run],
+    runs: &[PlaceRun],
     entries: &[Entry],
 ) -> Result<PlaceRuns, NoMemory>
     ensures { IfOk result (λ allowed. allowed ≡ filter (has_at kind dep.now entries.now) (places_in runs.now)) }
@@ -44,7 +44,7 @@ fn push_offering(
     allowed: &mut PlaceRuns,
     kind: DepKind,
     dep: &Dep,
-    run: Run,
+    run: PlaceRun,
     entries: &[Entry],
 ) -> Result<(), NoMemory>
     ensures { OnOk result (allowed.new ≡ allowed.old ++ filter (has_at kind dep.now entries.now) (between run.from run.to)) }

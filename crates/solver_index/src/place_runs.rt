@@ -9,7 +9,7 @@ use std::marker::Model;
 
 /// The places from one up to another.
 #[derive(Clone, Copy, Debug, Drop)]
-pub(crate) struct Run {
+pub(crate) struct PlaceRun {
     pub from: u64,
     pub to: u64,
 }
@@ -17,7 +17,7 @@ pub(crate) struct Run {
 /// Places of instances, kept as runs.
 #[derive(Debug, Drop)]
 pub struct PlaceRuns {
-    runs: List<Run>,
+    runs: List<PlaceRun>,
 }
 
 impl Model for PlaceRuns {
@@ -43,12 +43,12 @@ impl PlaceRuns {
         ensures { OnOk result (self.new ≡ self.old ++ between from to) }
     {
         if from < to {
-            self.runs.push(Run { from, to })?;
+            self.runs.push(PlaceRun { from, to })?;
         }
         Ok(())
     }
 
-    pub(crate) fn runs(&self) -> &[Run]
+    pub(crate) fn runs(&self) -> &[PlaceRun]
         ensures { places_in result.now ≡ self.now }
     {
         self.runs.as_slice()
@@ -66,7 +66,7 @@ impl PlaceRuns {
     }
 }
 
-fn push_places(places: &mut List<u64>, run: Run) -> Result<(), NoMemory>
+fn push_places(places: &mut List<u64>, run: PlaceRun) -> Result<(), NoMemory>
     ensures { OnOk result (places.new ≡ places.old ++ between run.from run.to) }
 {
     for place in run.from..run.to {

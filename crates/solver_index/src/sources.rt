@@ -6,7 +6,7 @@ ghost use Rattle.solver_index.specs.AllowedVersions.{allowed_versions};
 ghost use Rattle.solver_index.specs.Places.{flag_number};
 ghost use Rattle.solver_index.specs.Versions.{body_has_versions, deps_have_versions, entries_have_versions, flats_have_versions};
 
-use crate::dependencies::{ConditionalDep, Dependencies, Need, Setting, Target};
+use crate::dependencies::{ConditionalDep, Dependencies, UnitNeed, Setting, Target};
 use crate::inside_places::places_inside;
 use crate::offers::allowed_by;
 use crate::places::{flag_number, number};
@@ -146,17 +146,17 @@ impl<'a> Sources<'a> {
         Ok(deps)
     }
 
-    fn need(&self, alloc: Global, id: &Text, name: &Text) -> Result<Need, NoMemory>
+    fn need(&self, alloc: Global, id: &Text, name: &Text) -> Result<UnitNeed, NoMemory>
         requires { AreReady self.now }
         ensures { IfOk result (λ need. need ≡ need_in self.now id.now name.now) }
     {
         let package = number(self.packages, self.names, name);
         let places = places_of(self.units.as_slice(), package, id);
         let allowed = List::from_vec(Vec::from_slice(alloc, places)?);
-        Ok(Need { package, allowed })
+        Ok(UnitNeed { package, allowed })
     }
 
-    fn needs(&self, alloc: Global, ids: &[Text], names: &[Text]) -> Result<List<Need>, NoMemory>
+    fn needs(&self, alloc: Global, ids: &[Text], names: &[Text]) -> Result<List<UnitNeed>, NoMemory>
         requires { AreReady self.now }
         ensures { IfOk result (λ needs. needs ≡ needs_in self.now ids.now names.now) }
     {
@@ -240,7 +240,7 @@ impl<'a> Sources<'a> {
     }
 }
 
-fn of_unit(alloc: Global, needs: List<Need>) -> Dependencies
+fn of_unit(alloc: Global, needs: List<UnitNeed>) -> Dependencies
     ensures { result ≡ record { flags = []; deps = []; setup = []; needs = needs } }
 {
     Dependencies {

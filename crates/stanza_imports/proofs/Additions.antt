@@ -15,7 +15,7 @@ use Rattle.stanza_imports.specs.Imports.{under}
 use Rattle.stanza_imports.specs.KnownStanzas.{Stanzas, all_replaced, parts_of, sections_from, stanzas_behind}
 use Rattle.stanza_imports.specs.Names.{has, with_name}
 use Rattle.stanza_imports.specs.Standing.{IsMore, ExpandsTo, Knows, AreBodiesSoFar, all_behind, is_within}
-use Rattle.stanza_imports.specs.declared.stanzas.Body.{Body}
+use Rattle.stanza_imports.specs.declared.stanzas.StanzaBody.{StanzaBody}
 use Rattle.stanza_imports.specs.declared.stanzas.Bodies.{Bodies}
 use Rattle.stanza_imports.specs.declared.stanzas.Built.{Built}
 use Rattle.stanza_imports.specs.declared.stanzas.Stanzas as tables
@@ -43,11 +43,11 @@ itself known part said.BuildTools is other = rw is refl
 itself known part (said.Branch word condition fits) is other = rw is refl
 itself known part said.Misplaced is other = rw is refl
 
-table-push : (bodies : List Body) (body : Body) → table (bodies ++ body ∷ []) ≡ table bodies ++ body_parts (table bodies) body ∷ []
+table-push : (bodies : List StanzaBody) (body : StanzaBody) → table (bodies ++ body ∷ []) ≡ table bodies ++ body_parts (table bodies) body ∷ []
 table-push bodies body = in_turn-append body_parts [] bodies (body ∷ [])
 
 -- a stanza
-module _ (known : Stanzas) (name : List ℕ) (parts : List SectionPart) (body : Body) (old new : tables.Stanzas) (knows : Knows known old) (means : ExpandsTo old.bodies.items body parts) where
+module _ (known : Stanzas) (name : List ℕ) (parts : List SectionPart) (body : StanzaBody) (old new : tables.Stanzas) (knows : Knows known old) (means : ExpandsTo old.bodies.items body parts) where
   pub knows_new : has old.names name ≡ false → new.names ≡ with_name old.names name → new.bodies.items ≡ old.bodies.items ++ body ∷ [] → Knows (known ++ (name, parts) ∷ []) new
   knows_new is names bodies =
       let one : List ℕ × List SectionPart = (name, parts) in
@@ -61,8 +61,8 @@ module _ (known : Stanzas) (name : List ℕ) (parts : List SectionPart) (body : 
             ∙ (λ i. knows.parts i ++ means.parts i ∷ [])
             ∙ sym (map-append (λ (s : List ℕ × List SectionPart). s.1) knows.ones (one ∷ []));
         told =
-            ap (map (λ (b : Body). b.summary)) bodies
-            ∙ map-append (λ (b : Body). b.summary) old.bodies.items (body ∷ [])
+            ap (map (λ (b : StanzaBody). b.summary)) bodies
+            ∙ map-append (λ (b : StanzaBody). b.summary) old.bodies.items (body ∷ [])
             ∙ (λ i. knows.told i ++ (means.told ∙ ap summary (sym means.parts)) i ∷ [])
             ∙ sym (map-append summary (table old.bodies.items) (body_parts (table old.bodies.items) body ∷ []))
             ∙ ap (map summary) (sym (ap table bodies ∙ table-push old.bodies.items body));
@@ -77,7 +77,7 @@ module _ (known : Stanzas) (name : List ℕ) (parts : List SectionPart) (body : 
         ones = knows.ones;
         names = names ∙ ap (λ b. if b then old.names else (old.names ++ name ∷ [])) is ∙ knows.names;
         parts = ap table bodies ∙ knows.parts;
-        told = ap (map (λ (b : Body). b.summary)) bodies ∙ knows.told ∙ ap (λ v. map summary (table v)) (sym bodies);
+        told = ap (map (λ (b : StanzaBody). b.summary)) bodies ∙ knows.told ∙ ap (λ v. map summary (table v)) (sym bodies);
         found = found_already known knows.ones name parts knows.has knows.found there;
         has = has_already known knows.ones name parts knows.has there;
       }
@@ -101,7 +101,7 @@ shown-push sections section =
     ∙ ap (λ v. flat_map shown_in (sections_from [] sections) ++ v) (append-nil (shown_in one))
 
 -- built components expand to the same parts when stanzas are added
-module _ (stanzas more : List Body) where
+module _ (stanzas more : List StanzaBody) where
   shown_kept : (built : List Built) → list_all (λ one. is_within (length stanzas) one.body) built ≡ true → map (built_component (table (stanzas ++ more))) built ≡ map (built_component (table stanzas)) built
   shown_kept [] e = refl
   shown_kept (one ∷ built) e =
@@ -153,7 +153,7 @@ module _ (sections : List Section) (section : Section) (old new : Bodies) (stand
         ∙ sym (shown-push sections section ∙ rw kind (append-nil (flat_map shown_in (sections_from [] sections))));
   }
 
-  pub component : (kind : CompKind) (body : Body) (one : Built) → section.kind ≡ kinds.Component kind → ExpandsTo old.stanzas.bodies.items body (all_replaced (all_behind [] sections) section.parts) →
+  pub component : (kind : CompKind) (body : StanzaBody) (one : Built) → section.kind ≡ kinds.Component kind → ExpandsTo old.stanzas.bodies.items body (all_replaced (all_behind [] sections) section.parts) →
       new.stanzas ≡ old.stanzas → new.built.items ≡ old.built.items ++ one ∷ [] → one.section.now ≡ section → one.kind ≡ kind → one.body ≡ body → AreBodiesSoFar (sections ++ section ∷ []) new
   component kind body one is means stanzas built its_section its_kind its_body = record {
     knows = rw behind-push (rw is (subst (λ s. Knows (all_behind [] sections) s) (sym stanzas) standing.knows));
@@ -167,7 +167,7 @@ module _ (sections : List Section) (section : Section) (old new : Bodies) (stand
         ∙ (λ i. standing.shown i ++ record {
           section = record (its_section i) { parts = (ap (body_parts (table old.stanzas.bodies.items)) its_body ∙ means.parts) i };
           kind = its_kind i;
-          told = (ap (λ (b : Body). b.summary) its_body ∙ means.told) i;
+          told = (ap (λ (b : StanzaBody). b.summary) its_body ∙ means.told) i;
         } ∷ [])
         ∙ sym (shown-push sections section ∙ ap (λ v. flat_map shown_in (sections_from [] sections) ++ v)
         (shown_one section.line section.name (all_replaced (all_behind [] sections) section.parts) section.kind kind is));

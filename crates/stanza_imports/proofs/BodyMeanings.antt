@@ -15,10 +15,10 @@ use Rattle.stanza_imports.specs.Imports.{under}
 use Rattle.stanza_imports.specs.KnownStanzas.{Stanzas, parts_of}
 use Rattle.stanza_imports.specs.Names.{number_of}
 use Rattle.stanza_imports.specs.Standing.{ExpandsTo, Knows, is_below, joined, summary_under}
-use Rattle.stanza_imports.specs.declared.stanzas.Body.{Body}
+use Rattle.stanza_imports.specs.declared.stanzas.StanzaBody.{StanzaBody}
 use Rattle.stanza_imports.specs.declared.stanzas.Stanzas as tables
-use Rattle.stanza_imports.specs.declared.stanzas.Step.{Step}
-use Rattle.stanza_imports.specs.declared.stanzas.Step.TheVariants as step
+use Rattle.stanza_imports.specs.declared.stanzas.ImportStep.{ImportStep}
+use Rattle.stanza_imports.specs.declared.stanzas.ImportStep.TheVariants as step
 use Rattle.stanza_imports.proofs.FirstLines.{first_line-append}
 use Rattle.stanza_imports.proofs.StanzaLookups.{by_number, by_none}
 use Rattle.stanza_imports.proofs.BodyTurns.{told_at, in_front, length-in_turn, in_turn-append}
@@ -62,7 +62,7 @@ summary-under (c ∷ branches) parts =
     λ i. record { bad_visibility = bad_inside c branches parts i; weight = capped (weight-under (c ∷ branches) parts i) }
 
 -- one more step
-pub means_more : (stanzas : List Body) (old new : Body) (said parts : List SectionPart) (one : Step) → new.steps.items ≡ old.steps.items ++ one ∷ [] →
+pub means_more : (stanzas : List StanzaBody) (old new : StanzaBody) (said parts : List SectionPart) (one : ImportStep) → new.steps.items ≡ old.steps.items ++ one ∷ [] →
     step_parts (table stanzas) one ≡ parts → is_below (length stanzas) one ≡ true → new.summary ≡ joined old.summary (summary parts) →
     ExpandsTo stanzas old said → ExpandsTo stanzas new (said ++ parts)
 means_more stanzas old new said parts one steps is below told means = record {
@@ -78,7 +78,7 @@ means_more stanzas old new said parts one steps is below told means = record {
 }
 
 -- no more parts
-pub means_same : (stanzas : List Body) (body : Body) (said parts : List SectionPart) → parts ≡ [] → ExpandsTo stanzas body said → ExpandsTo stanzas body (said ++ parts)
+pub means_same : (stanzas : List StanzaBody) (body : StanzaBody) (said parts : List SectionPart) → parts ≡ [] → ExpandsTo stanzas body said → ExpandsTo stanzas body (said ++ parts)
 means_same stanzas body said parts none means = rw none (rw (append-nil said) means)
 
 -- the stanza of a number
@@ -96,23 +96,23 @@ module _ (known : Stanzas) (stanzas : tables.Stanzas) (knows : Knows known stanz
   not_within n e h =
       sym (there n e) ∙ get_or_past (table stanzas.bodies.items) n [] (let l = length-in_turn body_parts [] stanzas.bodies.items in omega arith)
 
-  pub empty_there : (n : ℕ) (body : Body) → number_of stanzas.names name ≡ Some n → n < length stanzas.bodies.items → body ≡ get_or stanzas.bodies.items n body → body.steps.items ≡ [] → parts_of known name ≡ []
+  pub empty_there : (n : ℕ) (body : StanzaBody) → number_of stanzas.names name ≡ Some n → n < length stanzas.bodies.items → body ≡ get_or stanzas.bodies.items n body → body.steps.items ≡ [] → parts_of known name ≡ []
   empty_there n body e h is none =
       sym (there n e) ∙ told_at body_parts [] n stanzas.bodies.items body (slice_get_read stanzas.bodies.items (length stanzas.bodies.items) n body refl h is) ∙ ap (flat_map (step_parts (table (take n stanzas.bodies.items)))) none
 
-  pub told_there : (n : ℕ) (body : Body) → number_of stanzas.names name ≡ Some n → n < length stanzas.bodies.items → body ≡ get_or stanzas.bodies.items n body → body.summary ≡ summary (parts_of known name)
+  pub told_there : (n : ℕ) (body : StanzaBody) → number_of stanzas.names name ≡ Some n → n < length stanzas.bodies.items → body ≡ get_or stanzas.bodies.items n body → body.summary ≡ summary (parts_of known name)
   told_there n body e h is =
       let bodies = stanzas.bodies.items in
       let l = length-in_turn body_parts [] bodies in
-      sym (ap (λ (v : Body). v.summary) (sym is))
-      ∙ sym (get_or-map (λ (v : Body). v.summary) bodies n body (summary []) h)
+      sym (ap (λ (v : StanzaBody). v.summary) (sym is))
+      ∙ sym (get_or-map (λ (v : StanzaBody). v.summary) bodies n body (summary []) h)
       ∙ ap (λ v. get_or v n (summary [])) knows.told
       ∙ get_or-map summary (table bodies) n [] (summary []) (omega arith)
       ∙ ap summary (there n e)
 
 -- stanzas added after those that a body imports
-module _ (stanzas more : List Body) where
-  step_kept : (one : Step) → is_below (length stanzas) one ≡ true → step_parts (table (stanzas ++ more)) one ≡ step_parts (table stanzas) one
+module _ (stanzas more : List StanzaBody) where
+  step_kept : (one : ImportStep) → is_below (length stanzas) one ≡ true → step_parts (table (stanzas ++ more)) one ≡ step_parts (table stanzas) one
   step_kept (step.Part part) below = refl
   step_kept (step.Import n branches) below =
       ap (λ v. map (under branches.now) (get_or v n [])) (in_turn-append body_parts [] stanzas more)
@@ -121,17 +121,17 @@ module _ (stanzas more : List Body) where
       before : nat_lt n (length stanzas) ≡ true → n < length (table stanzas)
       before e = let l = length-in_turn body_parts [] stanzas in grind (arith, common_steps, nat_tests)
 
-  step_below : (one : Step) → is_below (length stanzas) one ≡ true → is_below (length (stanzas ++ more)) one ≡ true
+  step_below : (one : ImportStep) → is_below (length stanzas) one ≡ true → is_below (length (stanzas ++ more)) one ≡ true
   step_below (step.Part part) below = refl
   step_below (step.Import n branches) below = let l = length-append stanzas more in grind (arith, common_steps, nat_tests)
 
-  pub steps_kept : (steps : List Step) → list_all (is_below (length stanzas)) steps ≡ true → flat_map (step_parts (table (stanzas ++ more))) steps ≡ flat_map (step_parts (table stanzas)) steps
+  pub steps_kept : (steps : List ImportStep) → list_all (is_below (length stanzas)) steps ≡ true → flat_map (step_parts (table (stanzas ++ more))) steps ≡ flat_map (step_parts (table stanzas)) steps
   steps_kept [] e = refl
   steps_kept (one ∷ steps) e =
       let here = is_below (length stanzas) one in let rest = list_all (is_below (length stanzas)) steps in
       λ i. step_kept one ((and_parts here rest e).0) i ++ steps_kept steps ((and_parts here rest e).1) i
 
-  pub steps_below : (steps : List Step) → list_all (is_below (length stanzas)) steps ≡ true → list_all (is_below (length (stanzas ++ more))) steps ≡ true
+  pub steps_below : (steps : List ImportStep) → list_all (is_below (length stanzas)) steps ≡ true → list_all (is_below (length (stanzas ++ more))) steps ≡ true
   steps_below [] e = refl
   steps_below (one ∷ steps) e =
       let here = is_below (length stanzas) one in let rest = list_all (is_below (length stanzas)) steps in

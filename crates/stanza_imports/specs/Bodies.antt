@@ -6,32 +6,32 @@ use Rattle.section_syntax.specs.declared.part.SectionPart.{SectionPart}
 use Rattle.section_syntax.specs.declared.part.Section.{Section}
 use Rattle.section_syntax.specs.declared.part.SectionKind.TheVariants as kinds
 use Rattle.stanza_imports.specs.Imports.{under, with_imports_replaced}
-use Rattle.stanza_imports.specs.declared.stanzas.Body.{Body}
+use Rattle.stanza_imports.specs.declared.stanzas.StanzaBody.{StanzaBody}
 use Rattle.stanza_imports.specs.declared.stanzas.Bodies.{Bodies}
 use Rattle.stanza_imports.specs.declared.stanzas.Built.{Built}
 use Rattle.stanza_imports.specs.declared.stanzas.Placed.{Placed}
-use Rattle.stanza_imports.specs.declared.stanzas.Step.{Step}
+use Rattle.stanza_imports.specs.declared.stanzas.ImportStep.{ImportStep}
 use Rattle.stanza_imports.specs.declared.stanzas.Summary.{Summary}
 use Rattle.stanza_imports.specs.Lines.{first_line}
 use Rattle.stanza_imports.specs.Parts.{deps_said, bad_visibility}
-use Rattle.stanza_imports.specs.declared.stanzas.Step.TheVariants as step
+use Rattle.stanza_imports.specs.declared.stanzas.ImportStep.TheVariants as step
 
 -- the parts of a step; the table has the parts of the stanzas, by number
-abbrev pub step_parts : List (List SectionPart) → Step → List SectionPart
+abbrev pub step_parts : List (List SectionPart) → ImportStep → List SectionPart
 step_parts table (step.Part part) = part.now ∷ []
 step_parts table (step.Import stanza branches) = map (under branches.now) (get_or table stanza [])
 
 -- the parts of a body
-abbrev pub body_parts : List (List SectionPart) → Body → List SectionPart
+abbrev pub body_parts : List (List SectionPart) → StanzaBody → List SectionPart
 body_parts table body = flat_map (step_parts table) body.steps.items
 
 -- a value for each body, computed from the values of those before it
-abbrev pub in_turn : {A : Type 0} → (List A → Body → A) → List A → List Body → List A
+abbrev pub in_turn : {A : Type 0} → (List A → StanzaBody → A) → List A → List StanzaBody → List A
 in_turn told before [] = before
 in_turn told before (body ∷ bodies) = in_turn told (before ++ told before body ∷ []) bodies
 
 -- the parts of stanzas, each of which imports only earlier ones
-abbrev pub table : List Body → List (List SectionPart)
+abbrev pub table : List StanzaBody → List (List SectionPart)
 table = in_turn body_parts []
 
 -- the line of the first bad `visibility`

@@ -7,16 +7,16 @@ use Rattle.section_syntax.specs.declared.part.Section.{Section}
 use Rattle.stanza_imports.specs.Lines.{lesser}
 use Rattle.stanza_imports.specs.KnownStanzas.{Stanzas, all_replaced, parts_of, sections_from, stanzas_behind}
 use Rattle.stanza_imports.specs.Names.{has}
-use Rattle.stanza_imports.specs.declared.stanzas.Body.{Body}
+use Rattle.stanza_imports.specs.declared.stanzas.StanzaBody.{StanzaBody}
 use Rattle.stanza_imports.specs.Parts.{is_named_library}
 use Rattle.stanza_imports.specs.declared.stanzas.Bodies.{Bodies}
 use Rattle.stanza_imports.specs.declared.stanzas.Built.{Built}
 use Rattle.stanza_imports.specs.declared.stanzas.Stanzas as tables
-use Rattle.stanza_imports.specs.declared.stanzas.Step.{Step}
+use Rattle.stanza_imports.specs.declared.stanzas.ImportStep.{ImportStep}
 use Rattle.stanza_imports.specs.declared.stanzas.Summary.{Summary}
 use Rattle.common_laws.specs.Small.{capped}
 use Rattle.stanza_imports.specs.Bodies.{body_parts, table, summary, built_component, shown_in}
-use Rattle.stanza_imports.specs.declared.stanzas.Step.TheVariants as step
+use Rattle.stanza_imports.specs.declared.stanzas.ImportStep.TheVariants as step
 
 -- the totals of these parts followed by more
 abbrev pub joined : Summary → Summary → Summary
@@ -28,20 +28,20 @@ summary_under [] told = told
 summary_under (branch ∷ branches) told = record told { bad_visibility = None }
 
 -- whether a step imports one of the first so many stanzas, if it imports any
-abbrev pub is_below : ℕ → Step → Bool
+abbrev pub is_below : ℕ → ImportStep → Bool
 is_below stanzas (step.Part part) = true
 is_below stanzas (step.Import stanza branches) = nat_lt stanza stanzas
 
 -- whether all steps of a body do
-abbrev pub is_within : ℕ → Body → Bool
+abbrev pub is_within : ℕ → StanzaBody → Bool
 is_within stanzas body = list_all (is_below stanzas) body.steps.items
 
 -- the first is a prefix of the second
-abbrev pub IsMore : List Body → List Body → Type 0
-IsMore bodies all = (more : List Body) × (all ≡ bodies ++ more)
+abbrev pub IsMore : List StanzaBody → List StanzaBody → Type 0
+IsMore bodies all = (more : List StanzaBody) × (all ≡ bodies ++ more)
 
 -- a body expands to these parts
-pub record ExpandsTo (stanzas : List Body) (body : Body) (said : List SectionPart) : Type 0 where
+pub record ExpandsTo (stanzas : List StanzaBody) (body : StanzaBody) (said : List SectionPart) : Type 0 where
   pub parts : body_parts (table stanzas) body ≡ said
   pub told : body.summary ≡ summary said
   pub within : is_within (length stanzas) body ≡ true
@@ -56,16 +56,16 @@ pub record Knows (known : Stanzas) (stanzas : tables.Stanzas) : Type 0 where
   pub has : (name : List ℕ) → has (map (λ s. s.0) known) name ≡ has (map (λ s. s.0) ones) name
 
 -- adding a stanza of this name and body extends the known ones by it
-abbrev pub Adds : List ℕ → Body → tables.Stanzas → tables.Stanzas → Type 0
+abbrev pub Adds : List ℕ → StanzaBody → tables.Stanzas → tables.Stanzas → Type 0
 Adds name body old new =
     (known : Stanzas) (parts : List SectionPart) → Knows known old → ExpandsTo old.bodies.items body parts → Knows (known ++ (name, parts) ∷ []) new
 
 -- the body expands to these parts with imports replaced
-abbrev pub IsBodyOf : tables.Stanzas → List SectionPart → Body → Type 0
+abbrev pub IsBodyOf : tables.Stanzas → List SectionPart → StanzaBody → Type 0
 IsBodyOf stanzas parts body = (known : Stanzas) → Knows known stanzas → ExpandsTo stanzas.bodies.items body (all_replaced known parts)
 
 -- the new body expands to the parts of the old one, followed by more
-abbrev pub Grows : tables.Stanzas → Body → Body → (Stanzas → List SectionPart) → Type 0
+abbrev pub Grows : tables.Stanzas → StanzaBody → StanzaBody → (Stanzas → List SectionPart) → Type 0
 Grows stanzas old new more =
     (known : Stanzas) (said : List SectionPart) → Knows known stanzas → ExpandsTo stanzas.bodies.items old said
     → ExpandsTo stanzas.bodies.items new (said ++ more known)

@@ -19,7 +19,7 @@ use std::alloc::Global;
 
 /// A part, or an import of a common stanza by its number.
 #[derive(Clone, Copy)]
-enum Step<'a> {
+enum ImportStep<'a> {
     Part(&'a SectionPart),
     Import {
         stanza: usize,
@@ -29,8 +29,8 @@ enum Step<'a> {
 
 /// A section whose imports are numbers.
 #[derive(Drop)]
-pub struct Body<'a> {
-    steps: Vec<Step<'a>>,
+pub struct StanzaBody<'a> {
+    steps: Vec<ImportStep<'a>>,
     /// Of its parts with imports replaced.
     summary: Summary,
 }
@@ -91,7 +91,7 @@ impl Summary {
 #[derive(Drop)]
 pub struct Stanzas<'a> {
     names: NameSet<'a>,
-    bodies: Vec<Body<'a>>,
+    bodies: Vec<StanzaBody<'a>>,
 }
 
 /// A part, and the conditions of its branches once imports are replaced.
@@ -105,8 +105,8 @@ pub struct Placed<'a> {
 #[derive(Drop)]
 struct Frame<'b, 'a> {
     branches: List<Guard>,
-    stanzas: &'b [Body<'a>],
-    steps: &'b [Step<'a>],
+    stanzas: &'b [StanzaBody<'a>],
+    steps: &'b [ImportStep<'a>],
 }
 
 impl<'a> Stanzas<'a> {
@@ -120,7 +120,7 @@ impl<'a> Stanzas<'a> {
     }
 
     /// Adds a common stanza.
-    fn add(&mut self, name: &'a Text, body: Body<'a>) -> Result<(), NoMemory>
+    fn add(&mut self, name: &'a Text, body: StanzaBody<'a>) -> Result<(), NoMemory>
         ensures knows { OnOk result (Adds name.now body.entry self.old self.new) }
         ensures more { OnOk result (IsMore self.old.bodies.items self.new.bodies.items) }
     {
@@ -132,10 +132,10 @@ impl<'a> Stanzas<'a> {
     }
 
     /// The body of a section after these stanzas.
-    fn body(&self, alloc: Global, parts: &'a [SectionPart]) -> Result<Body<'a>, NoMemory>
+    fn body(&self, alloc: Global, parts: &'a [SectionPart]) -> Result<StanzaBody<'a>, NoMemory>
         ensures { IfOk result (IsBodyOf self.now parts.now) }
     {
-        let mut body = Body {
+        let mut body = StanzaBody {
             steps: Vec::new(alloc),
             summary: Summary::of_none(),
         };
@@ -145,7 +145,7 @@ impl<'a> Stanzas<'a> {
         Ok(body)
     }
 
-    fn push(&self, body: &mut Body<'a>, part: &'a SectionPart) -> Result<(), NoMemory>
+    fn push(&self, body: &mut StanzaBody<'a>, part: &'a SectionPart) -> Result<(), NoMemory>
         ensures { OnOk result (Grows self.now body.old body.new (λ known. all_replaced known (part.now ∷ []))) }
     {
         match &part.said {
@@ -162,7 +162,7 @@ impl<'a> Stanzas<'a> {
 
     fn import(
         &self,
-        body: &mut Body<'a>,
+        body: &mut StanzaBody<'a>,
         names: &[Text],
         branches: &'a List<Guard>,
     ) -> Result<(), NoMemory>
@@ -177,7 +177,7 @@ impl<'a> Stanzas<'a> {
     // A stanza without parts is skipped, so that each step leads to a part.
     fn import_one(
         &self,
-        body: &mut Body<'a>,
+        body: &mut StanzaBody<'a>,
         name: &Text,
         branches: &'a List<Guard>,
     ) -> Result<(), NoMemory>
@@ -200,7 +200,7 @@ impl<'a> Stanzas<'a> {
     pub fn replaced<'b>(
         &'b self,
         alloc: Global,
-        body: &'b Body<'a>,
+        body: &'b StanzaBody<'a>,
     ) -> Result<Vec<Placed<'a>>, NoMemory>
         ensures { IfOk result (λ placed. map placed_part placed.items ≡ body_parts (table self.now.bodies.items) body.now) }
     {
@@ -228,8 +228,8 @@ impl<'a> Stanzas<'a> {
 fn go_on<'b, 'a>(
     alloc: Global,
     branches: List<Guard>,
-    stanzas: &'b [Body<'a>],
-    steps: &'b [Step<'a>],
+    stanzas: &'b [StanzaBody<'a>],
+    steps: &'b [ImportStep<'a>],
     frames: &mut Vec<Frame<'b, 'a>>,
     placed: &mut Vec<Placed<'a>>,
 ) -> Result<(), NoMemory>
@@ -241,7 +241,7 @@ fn go_on<'b, 'a>(
         return Ok(());
     };
     match step {
-        Step::Part(part) => {
+        ImportStep::Part(part) => {
             let inner = joined(alloc, &branches, &part.branches)?;
             placed.push(Placed {
                 branches: inner,
@@ -254,7 +254,7 @@ fn go_on<'b, 'a>(
             })?;
             Ok(())
         }
-        Step::Import {
+        ImportStep::Import {
             stanza,
             branches: own,
         } => {
@@ -273,7 +273,7 @@ fn go_on<'b, 'a>(
 // A stanza imports only earlier ones, so the walk ends.
 fn enter<'b, 'a>(
     frames: &mut Vec<Frame<'b, 'a>>,
-    stanzas: &'b [Body<'a>],
+    stanzas: &'b [StanzaBody<'a>],
     stanza: usize,
     branches: List<Guard>,
 ) -> Result<(), NoMemory>
@@ -292,12 +292,12 @@ fn enter<'b, 'a>(
     Ok(())
 }
 
-impl<'a> Body<'a> {
+impl<'a> StanzaBody<'a> {
     fn push_part(&mut self, part: &'a SectionPart) -> Result<(), NoMemory>
-        ensures { OnOk result ((stanzas : List Body) (said : List SectionPart) → ExpandsTo stanzas self.old said
+        ensures { OnOk result ((stanzas : List StanzaBody) (said : List SectionPart) → ExpandsTo stanzas self.old said
             → ExpandsTo stanzas self.new (said ++ part.now ∷ [])) }
     {
-        self.steps.push(Step::Part(part))?;
+        self.steps.push(ImportStep::Part(part))?;
         self.summary = self.summary.joined(Summary::of(part));
         Ok(())
     }
@@ -305,14 +305,14 @@ impl<'a> Body<'a> {
     fn push_import(
         &mut self,
         stanza: usize,
-        imported: &Body<'a>,
+        imported: &StanzaBody<'a>,
         branches: &'a List<Guard>,
     ) -> Result<(), NoMemory>
-        ensures { OnOk result ((stanzas : List Body) (said parts : List SectionPart) → ExpandsTo stanzas self.old said → stanza < length stanzas
+        ensures { OnOk result ((stanzas : List StanzaBody) (said parts : List SectionPart) → ExpandsTo stanzas self.old said → stanza < length stanzas
             → get_or (table stanzas) stanza [] ≡ parts → imported.now.summary ≡ summary parts
             → ExpandsTo stanzas self.new (said ++ map (under branches.now) parts)) }
     {
-        self.steps.push(Step::Import { stanza, branches })?;
+        self.steps.push(ImportStep::Import { stanza, branches })?;
         let imported = imported.summary.under(branches.as_slice());
         self.summary = self.summary.joined(imported);
         Ok(())
@@ -374,7 +374,7 @@ fn push_copies(conds: &mut List<Guard>, more: &[Guard]) -> Result<(), NoMemory>
 pub struct Built<'a> {
     pub section: &'a Section,
     pub kind: CompKind,
-    pub body: Body<'a>,
+    pub body: StanzaBody<'a>,
 }
 
 /// The components of a file, and the stanzas that they may import.

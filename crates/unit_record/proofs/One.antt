@@ -5,12 +5,12 @@ use Rattle.cabal_lexer.proofs.Exact as lexer
 use Rattle.version_range.proofs.Exact.{one_version_of}
 use Rattle.unit_record.specs.Fields.{Field, FieldSays, Say, TopField, field_word, top_fields}
 use Rattle.unit_record.specs.Record.{IsRecord, outcome, contents}
-use Rattle.unit_record.specs.declared.field.FieldWord.{FieldWord}
-use Rattle.unit_record.specs.declared.field.FieldWord.TheVariants as fields
-use Rattle.unit_record.specs.declared.field.Said.{Said}
-use Rattle.unit_record.specs.declared.field.Said.TheVariants as said
+use Rattle.unit_record.specs.declared.field.RecordFieldWord.{RecordFieldWord}
+use Rattle.unit_record.specs.declared.field.RecordFieldWord.TheVariants as fields
+use Rattle.unit_record.specs.declared.field.RecordSaid.{RecordSaid}
+use Rattle.unit_record.specs.declared.field.RecordSaid.TheVariants as said
 
-one_said : (word : FieldWord) (text : List ℕ) (a b : Said) → FieldSays word text a → FieldSays word text b → a ≡ b
+one_said : (word : RecordFieldWord) (text : List ℕ) (a b : RecordSaid) → FieldSays word text a → FieldSays word text b → a ≡ b
 one_said fields.Name text a b p q = p ∙ sym q
 one_said fields.Version text a b p q = p.2 ∙ ap said.Version (one_version_of text p.0 q.0 p.1 q.1) ∙ sym q.2
 one_said fields.Id text a b p q = p ∙ sym q

@@ -8,8 +8,8 @@ use Rattle.std.proofs.lemmas.Grind.{flat_map-append}
 use Rattle.std.proofs.lemmas.List.{append-nil}
 use Rattle.unit_record.specs.Fields.{Field}
 use Rattle.unit_record.specs.Record.{is_lib_name, name_of, version_of, id_of, depends_of, is_bad, first_bad, contents}
-use Rattle.unit_record.specs.declared.field.Said.{Said}
-use Rattle.unit_record.specs.declared.field.Said.TheVariants.{Name, Version, Id, Depends, LibName, Unread}
+use Rattle.unit_record.specs.declared.field.RecordSaid.{RecordSaid}
+use Rattle.unit_record.specs.declared.field.RecordSaid.TheVariants.{Name, Version, Id, Depends, LibName, Unread}
 use Rattle.unit_record.specs.declared.contents.Contents.{Contents}
 
 or_swap : (a b r : Bool) → (a || (b || r)) ≡ (b || (a || r))
@@ -32,7 +32,7 @@ bad_push : (fields : List Field) (x : Field) → first_bad (fields ++ x ∷ []) 
 bad_push [] x = refl
 bad_push (y ∷ ys) x = ap (λ r. cond (is_bad y.said) (Some y.line) r) (bad_push ys x) ∙ bad_push-cons (is_bad y.said) (is_bad x.said) y.line x.line (first_bad ys)
 
-abbrev depends_after : Said → List (List ℕ) → List (List ℕ)
+abbrev depends_after : RecordSaid → List (List ℕ) → List (List ℕ)
 depends_after (Name name) old = old
 depends_after (Version version) old = old
 depends_after (Id id) old = old
@@ -40,7 +40,7 @@ depends_after (Depends ids) old = old ++ ids
 depends_after LibName old = old
 depends_after Unread old = old
 
-after_said : (said : Said) (old : List (List ℕ)) → old ++ depends_of said ≡ depends_after said old
+after_said : (said : RecordSaid) (old : List (List ℕ)) → old ++ depends_of said ≡ depends_after said old
 after_said (Name name) old = append-nil old
 after_said (Version version) old = append-nil old
 after_said (Id id) old = append-nil old
@@ -55,7 +55,7 @@ depends_push fields x =
     flat_map-append of fields (x ∷ []) ∙ ap (λ more. flat_map of fields ++ more) (append-nil (depends_of x.said)) ∙ after_said x.said (flat_map of fields)
 
 -- the contents with one more field
-abbrev pub pushed : Contents → ℕ → Said → Contents
+abbrev pub pushed : Contents → ℕ → RecordSaid → Contents
 pushed t line said =
     record {
       left_out = is_lib_name said || t.left_out;
@@ -66,7 +66,7 @@ pushed t line said =
       depends = depends_after said t.depends;
     }
 
-told_push : (fields : List Field) (line : ℕ) (said : Said) → pushed (contents fields) line said ≡ contents (fields ++ record { line = line; said = said } ∷ [])
+told_push : (fields : List Field) (line : ℕ) (said : RecordSaid) → pushed (contents fields) line said ≡ contents (fields ++ record { line = line; said = said } ∷ [])
 told_push fields line said =
     let x : Field = record { line = line; said = said } in
     sym (λ i. record {
@@ -78,6 +78,6 @@ told_push fields line said =
       depends = depends_push fields x i;
     })
 
-pub goes : (t : Contents) (line : ℕ) (said : Said) {given : Said} → given ≡ said → (fields : List Field) → t ≡ contents fields → pushed t line said ≡ contents (fields ++ record { line = line; said = given } ∷ [])
+pub goes : (t : Contents) (line : ℕ) (said : RecordSaid) {given : RecordSaid} → given ≡ said → (fields : List Field) → t ≡ contents fields → pushed t line said ≡ contents (fields ++ record { line = line; said = given } ∷ [])
 goes t line said is fields before =
     ap (λ s. pushed s line said) before ∙ told_push fields line said ∙ ap (λ s. contents (fields ++ record { line = line; said = s } ∷ [])) (sym is)

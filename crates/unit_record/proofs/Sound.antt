@@ -14,9 +14,9 @@ use Rattle.plan_types.specs.declared.version.Version.{Version}
 use Rattle.version_range.specs.Version.{is_version, IsVersionOf}
 use Rattle.unit_record.specs.Fields.{Field, FieldSays, Say, TopField, field_word, top_fields}
 use Rattle.unit_record.specs.Record.{IsRecord, complete, name_of, outcome, unless_bad, contents, version_of}
-use Rattle.unit_record.specs.declared.field.FieldWord.{FieldWord}
-use Rattle.unit_record.specs.declared.field.FieldWord.TheVariants as fields
-use Rattle.unit_record.specs.declared.field.Said.{Said}
+use Rattle.unit_record.specs.declared.field.RecordFieldWord.{RecordFieldWord}
+use Rattle.unit_record.specs.declared.field.RecordFieldWord.TheVariants as fields
+use Rattle.unit_record.specs.declared.field.RecordSaid.{RecordSaid}
 use Rattle.unit_record.specs.declared.contents.Contents.{Contents}
 use Rattle.std.specs.Option.{option_or}
 use Rattle.text_grammar.specs.Last.{last_given}
@@ -31,7 +31,7 @@ name_if : (text : List ℕ) (t : Bool) → is_package_name text ≡ t → IfSome
 name_if text true e = e
 name_if text false e = tt
 
-said_name : (word : FieldWord) (text : List ℕ) (s : Said) → FieldSays word text s → IfSome (name_of s) IsName
+said_name : (word : RecordFieldWord) (text : List ℕ) (s : RecordSaid) → FieldSays word text s → IfSome (name_of s) IsName
 said_name fields.Name text s says = subst (λ s. IfSome (name_of s) IsName) (sym says) (name_if text (is_package_name text) refl)
 said_name fields.Version text s says = subst (λ s. IfSome (name_of s) IsName) (sym says.2) tt
 said_name fields.Id text s says = subst (λ s. IfSome (name_of s) IsName) (sym says) tt
@@ -43,7 +43,7 @@ version_if : (text : List ℕ) (version : Option Version) → IsVersionOf text v
 version_if text None h = tt
 version_if text (Some version) h = h.0
 
-said_version : (word : FieldWord) (text : List ℕ) (s : Said) → FieldSays word text s → IfSome (version_of s) HasForm
+said_version : (word : RecordFieldWord) (text : List ℕ) (s : RecordSaid) → FieldSays word text s → IfSome (version_of s) HasForm
 said_version fields.Name text s says = subst (λ s. IfSome (version_of s) HasForm) (sym says) tt
 said_version fields.Version text s says = subst (λ s. IfSome (version_of s) HasForm) (sym says.2) (version_if text says.0 says.1)
 said_version fields.Id text s says = subst (λ s. IfSome (version_of s) HasForm) (sym says) tt
@@ -55,7 +55,7 @@ if_else : {A : Type 0} (P : A → Type 0) (a b : Option A) → IfSome a P → If
 if_else P None b p q = q
 if_else P (Some a) b p q = p
 
-module _ {A : Type 0} (P : A → Type 0) (of : Said → Option A) (each : (word : FieldWord) (text : List ℕ) (s : Said) → FieldSays word text s → IfSome (of s) P) where
+module _ {A : Type 0} (P : A → Type 0) (of : RecordSaid → Option A) (each : (word : RecordFieldWord) (text : List ℕ) (s : RecordSaid) → FieldSays word text s → IfSome (of s) P) where
   last_if : (tops : List TopField) (all : List Field) → Say tops all → IfSome (last_given (λ (field : Field). of field.said) all) P
   last_if [] [] h = tt
   last_if [] (x ∷ xs) h = absurd h

@@ -8,7 +8,7 @@ use Rattle.plan_types.specs.declared.element.Element.TheVariants.{Field as Field
 use Rattle.unit_record.specs.Fields.{Field, FieldSays, Say, TopField, field_word, fields_of, top_fields}
 use Rattle.unit_record.specs.Folds.{of_field, of_section}
 use Rattle.unit_record.specs.Record.{contents}
-use Rattle.unit_record.specs.declared.field.Said.{Said}
+use Rattle.unit_record.specs.declared.field.RecordSaid.{RecordSaid}
 use Rattle.unit_record.specs.declared.contents.Contents.{Contents}
 
 say_both : (tops more : List TopField) (fields others : List Field) → Say tops fields → Say more others → Say (tops ++ more) (fields ++ others)
@@ -25,7 +25,7 @@ Tell tops all = (fields : List Field) × Say tops fields × (all ≡ contents fi
 abbrev pub Goes : List TopField → Contents → Contents → Type 0
 Goes tops old new = (before : List Field) → old ≡ contents before → (found : List Field) × Say tops found × (new ≡ contents (before ++ found))
 
-pub field_goes : {item : Element} (line : ℕ) (name : List ℕ) (values : List (List ℕ)) (said : Said) (old new : Contents) → item ≡ FieldElement line name values →
+pub field_goes : {item : Element} (line : ℕ) (name : List ℕ) (values : List (List ℕ)) (said : RecordSaid) (old new : Contents) → item ≡ FieldElement line name values →
     FieldSays (field_word name) (joined_text values) said → ((before : List Field) → old ≡ contents before → new ≡ contents (before ++ record { line = line; said = said } ∷ [])) → Goes (fields_of item) old new
 field_goes line name values said old new is says step before e =
     (record { line = line; said = said } ∷ [], subst (λ t. Say t (record { line = line; said = said } ∷ [])) (sym (ap fields_of is ∙ of_field line name values)) (refl, says, tt), step before e)

@@ -7,7 +7,7 @@ use Rattle.unit_record.specs.Words.{is_unit_id}
 use Rattle.unit_record.specs.Fields.{top_fields}
 use Rattle.unit_record.specs.Folds.{of_field, of_section}
 use Rattle.unit_record.specs.Record.{outcome, contents}
-use Rattle.unit_record.specs.declared.field.Said.TheVariants as said
+use Rattle.unit_record.specs.declared.field.RecordSaid.TheVariants as said
 
 words_of_depends : words BlanksAndCommas (codes "a-1, b-2  c") ≡ codes "a-1" ∷ codes "b-2" ∷ codes "c" ∷ []
 words_of_depends = refl

@@ -8,10 +8,10 @@ use Rattle.version_range.specs.Version.{IsVersionOf}
 use Rattle.text_grammar.specs.Words.{package_name, words}
 use Rattle.text_grammar.specs.declared.word.Between.TheVariants.{BlanksAndCommas}
 use Rattle.unit_record.specs.Words.{is_unit_id}
-use Rattle.unit_record.specs.declared.field.FieldWord.{FieldWord}
-use Rattle.unit_record.specs.declared.field.FieldWord.TheVariants as fields
-use Rattle.unit_record.specs.declared.field.Said.{Said}
-use Rattle.unit_record.specs.declared.field.Said.TheVariants as said
+use Rattle.unit_record.specs.declared.field.RecordFieldWord.{RecordFieldWord}
+use Rattle.unit_record.specs.declared.field.RecordFieldWord.TheVariants as fields
+use Rattle.unit_record.specs.declared.field.RecordSaid.{RecordSaid}
+use Rattle.unit_record.specs.declared.field.RecordSaid.TheVariants as said
 
 -- a field outside sections, with its values joined by single spaces
 pub record TopField : Type 0 where
@@ -33,7 +33,7 @@ abbrev pub top_fields : List Element → List TopField
 top_fields items = flat_map fields_of items
 
 -- the field with this name
-abbrev pub field_word : List ℕ → FieldWord
+abbrev pub field_word : List ℕ → RecordFieldWord
 field_word name =
     if same_text name (codes "name") then fields.Name
     else if same_text name (codes "version") then fields.Version
@@ -47,7 +47,7 @@ abbrev pub unit_id : List ℕ → Option (List ℕ)
 unit_id text = if is_unit_id text then Some text else None
 
 -- the value of a field with this text
-abbrev pub FieldSays : FieldWord → List ℕ → Said → Type 0
+abbrev pub FieldSays : RecordFieldWord → List ℕ → RecordSaid → Type 0
 FieldSays fields.Name text found = found ≡ said.Name (package_name text)
 FieldSays fields.Version text found = (version : Option Version) × IsVersionOf text version × (found ≡ said.Version version)
 FieldSays fields.Id text found = found ≡ said.Id (unit_id text)
@@ -58,7 +58,7 @@ FieldSays fields.Unread text found = found ≡ said.Unread
 -- a field with its line and value
 pub record Field : Type 0 where
   pub line : ℕ
-  pub said : Said
+  pub said : RecordSaid
 
 -- the lines and values of the fields, one by one
 abbrev pub Say : List TopField → List Field → Type 0

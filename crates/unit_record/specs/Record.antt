@@ -8,12 +8,12 @@ use Rattle.plan_types.specs.declared.version.Version.{Version}
 use Rattle.text_grammar.specs.Last.{last_given}
 use Rattle.cabal_lexer.specs.Fault.{IsTree, IsFault}
 use Rattle.unit_record.specs.Fields.{Field, Say, top_fields}
-use Rattle.unit_record.specs.declared.field.Said.{Said}
-use Rattle.unit_record.specs.declared.field.Said.TheVariants.{Name, Version as VersionOf, Id, Depends, LibName, Unread}
+use Rattle.unit_record.specs.declared.field.RecordSaid.{RecordSaid}
+use Rattle.unit_record.specs.declared.field.RecordSaid.TheVariants.{Name, Version as VersionOf, Id, Depends, LibName, Unread}
 use Rattle.unit_record.specs.declared.contents.Contents.{Contents}
 
 -- whether a field marks the unit as a sublibrary
-abbrev pub is_lib_name : Said → Bool
+abbrev pub is_lib_name : RecordSaid → Bool
 is_lib_name (Name name) = false
 is_lib_name (VersionOf version) = false
 is_lib_name (Id id) = false
@@ -22,7 +22,7 @@ is_lib_name LibName = true
 is_lib_name Unread = false
 
 -- the name in a field
-abbrev pub name_of : Said → Option (List ℕ)
+abbrev pub name_of : RecordSaid → Option (List ℕ)
 name_of (Name name) = name
 name_of (VersionOf version) = None
 name_of (Id id) = None
@@ -31,7 +31,7 @@ name_of LibName = None
 name_of Unread = None
 
 -- the version in a field
-abbrev pub version_of : Said → Option Version
+abbrev pub version_of : RecordSaid → Option Version
 version_of (Name name) = None
 version_of (VersionOf version) = version
 version_of (Id id) = None
@@ -40,7 +40,7 @@ version_of LibName = None
 version_of Unread = None
 
 -- the id in a field
-abbrev pub id_of : Said → Option (List ℕ)
+abbrev pub id_of : RecordSaid → Option (List ℕ)
 id_of (Name name) = None
 id_of (VersionOf version) = None
 id_of (Id id) = id
@@ -49,7 +49,7 @@ id_of LibName = None
 id_of Unread = None
 
 -- the ids of the needed units in a field
-abbrev pub depends_of : Said → List (List ℕ)
+abbrev pub depends_of : RecordSaid → List (List ℕ)
 depends_of (Name name) = []
 depends_of (VersionOf version) = []
 depends_of (Id id) = []
@@ -63,7 +63,7 @@ is_missing None = true
 is_missing (Some a) = false
 
 -- whether a value isn't well-formed
-abbrev pub is_bad : Said → Bool
+abbrev pub is_bad : RecordSaid → Bool
 is_bad (Name name) = is_missing name
 is_bad (VersionOf version) = is_missing version
 is_bad (Id id) = is_missing id
@@ -89,7 +89,7 @@ contents fields =
     }
 
 -- the contents with one more field
-abbrev pub Adds : ℕ → Said → Contents → Contents → Type 0
+abbrev pub Adds : ℕ → RecordSaid → Contents → Contents → Type 0
 Adds line said old new = (fields : List Field) → old ≡ contents fields → new ≡ contents (fields ++ record { line = line; said = said } ∷ [])
 
 -- the record if nothing is missing, else a fault at line 0

@@ -6,7 +6,7 @@ ghost use Rattle.plan_types.specs.declared.refusal.Fault.TheVariants.{At};
 ghost use Rattle.plan_types.specs.Refusal.{RefusesAt};
 ghost use Rattle.unit_record.specs.Record.{Adds, contents, outcome};
 
-use crate::field::Said;
+use crate::field::RecordSaid;
 use plan_types::{Cause, Fault, List, NoMemory, Text, UnitRecord, Version};
 use std::alloc::Global;
 
@@ -53,19 +53,19 @@ impl Contents {
     }
 
     /// Adds a field.
-    pub fn take(&mut self, line: u32, said: Said) -> Result<(), NoMemory>
+    pub fn take(&mut self, line: u32, said: RecordSaid) -> Result<(), NoMemory>
         ensures { OnOk result (Adds line said self.old self.new) }
     {
         match said {
-            Said::Name(Some(name)) => self.name = Some(name),
-            Said::Name(None) => self.bad_at(line),
-            Said::Version(Some(version)) => self.version = Some(version),
-            Said::Version(None) => self.bad_at(line),
-            Said::Id(Some(id)) => self.id = Some(id),
-            Said::Id(None) => self.bad_at(line),
-            Said::Depends(mut ids) => self.depends.append(&mut ids)?,
-            Said::LibName => self.left_out = true,
-            Said::Unread => {}
+            RecordSaid::Name(Some(name)) => self.name = Some(name),
+            RecordSaid::Name(None) => self.bad_at(line),
+            RecordSaid::Version(Some(version)) => self.version = Some(version),
+            RecordSaid::Version(None) => self.bad_at(line),
+            RecordSaid::Id(Some(id)) => self.id = Some(id),
+            RecordSaid::Id(None) => self.bad_at(line),
+            RecordSaid::Depends(mut ids) => self.depends.append(&mut ids)?,
+            RecordSaid::LibName => self.left_out = true,
+            RecordSaid::Unread => {}
         }
         Ok(())
     }

@@ -11,7 +11,7 @@ use version_range::version_of;
 
 /// The fields of a record, by name.
 #[derive(Clone, Copy, Debug, PartialEq, Eq)]
-pub enum FieldWord {
+pub enum RecordFieldWord {
     Name,
     Version,
     Id,
@@ -22,7 +22,7 @@ pub enum FieldWord {
 
 /// The value of a field.
 #[derive(Debug, Drop)]
-pub enum Said {
+pub enum RecordSaid {
     /// None if the value isn't well-formed. The same for the next two.
     Name(Option<Text>),
     Version(Option<Version>),
@@ -33,51 +33,51 @@ pub enum Said {
     Unread,
 }
 
-fn field_word(name: &str) -> FieldWord
+fn field_word(name: &str) -> RecordFieldWord
     ensures { result ≡ field_word name.now }
 {
     match name {
-        "name" => FieldWord::Name,
-        "version" => FieldWord::Version,
-        "id" => FieldWord::Id,
-        "depends" => FieldWord::Depends,
-        "lib-name" => FieldWord::LibName,
-        _ => FieldWord::Unread,
+        "name" => RecordFieldWord::Name,
+        "version" => RecordFieldWord::Version,
+        "id" => RecordFieldWord::Id,
+        "depends" => RecordFieldWord::Depends,
+        "lib-name" => RecordFieldWord::LibName,
+        _ => RecordFieldWord::Unread,
     }
 }
 
 /// The content of a field with this name and these values.
-pub fn said_by(alloc: Global, name: &Text, values: &List<Text>) -> Result<Said, NoMemory>
+pub fn said_by(alloc: Global, name: &Text, values: &List<Text>) -> Result<RecordSaid, NoMemory>
     ensures { IfOk result (FieldSays (field_word name.now) (joined_text values.now)) }
 {
     said_as(alloc, field_word(name.as_str()), values)
 }
 
 // An unread field isn't joined.
-fn said_as(alloc: Global, word: FieldWord, values: &List<Text>) -> Result<Said, NoMemory>
+fn said_as(alloc: Global, word: RecordFieldWord, values: &List<Text>) -> Result<RecordSaid, NoMemory>
     ensures { IfOk result (FieldSays word (joined_text values.now)) }
 {
     match word {
-        FieldWord::Name => {
+        RecordFieldWord::Name => {
             let text = joined_text(alloc, values.as_slice())?;
-            Ok(Said::Name(package_name(text)))
+            Ok(RecordSaid::Name(package_name(text)))
         }
-        FieldWord::Version => {
+        RecordFieldWord::Version => {
             let text = joined_text(alloc, values.as_slice())?;
             let version = version_of(alloc, text.as_bytes())?;
-            Ok(Said::Version(version))
+            Ok(RecordSaid::Version(version))
         }
-        FieldWord::Id => {
+        RecordFieldWord::Id => {
             let text = joined_text(alloc, values.as_slice())?;
-            Ok(Said::Id(unit_id(text)))
+            Ok(RecordSaid::Id(unit_id(text)))
         }
-        FieldWord::Depends => {
+        RecordFieldWord::Depends => {
             let text = joined_text(alloc, values.as_slice())?;
             let ids = words(alloc, Between::BlanksAndCommas, text.as_str())?;
-            Ok(Said::Depends(ids))
+            Ok(RecordSaid::Depends(ids))
         }
-        FieldWord::LibName => Ok(Said::LibName),
-        FieldWord::Unread => Ok(Said::Unread),
+        RecordFieldWord::LibName => Ok(RecordSaid::LibName),
+        RecordFieldWord::Unread => Ok(RecordSaid::Unread),
     }
 }
 

@@ -27,7 +27,7 @@ impl Connective {
 }
 
 // The least end of two lists, and the lists that it is removed from.
-struct Least {
+struct LeastEnd {
     end: Version,
     from_first: bool,
     from_second: bool,
@@ -52,7 +52,7 @@ pub fn merged(
     let mut rest_first = VecDeque::from_vec(first);
     let mut rest_second = VecDeque::from_vec(second);
     while let Some(least) = take_least(&mut rest_first, &mut rest_second) {
-        let Least {
+        let LeastEnd {
             end,
             from_first,
             from_second,
@@ -81,7 +81,7 @@ fn push_if(ends: &mut List<Version>, end: Version, wanted: bool) -> Result<(), N
     Ok(())
 }
 
-fn take_least(first: &mut VecDeque<Version>, second: &mut VecDeque<Version>) -> Option<Least>
+fn take_least(first: &mut VecDeque<Version>, second: &mut VecDeque<Version>) -> Option<LeastEnd>
     requires first_rises { rises first.old.items ≡ true }
     requires second_rises { rises second.old.items ≡ true }
     ensures some { IfSome result (λ s. IsStep first.old.items second.old.items s.end
@@ -90,31 +90,31 @@ fn take_least(first: &mut VecDeque<Version>, second: &mut VecDeque<Version>) -> 
 {
     match (first.front(), second.front()) {
         (None, None) => None,
-        (Some(_), None) => Some(Least {
+        (Some(_), None) => Some(LeastEnd {
             end: first.pop_front()?,
             from_first: true,
             from_second: false,
         }),
-        (None, Some(_)) => Some(Least {
+        (None, Some(_)) => Some(LeastEnd {
             end: second.pop_front()?,
             from_first: false,
             from_second: true,
         }),
         (Some(x), Some(y)) => match x.compare(y) {
-            Ordering::Less => Some(Least {
+            Ordering::Less => Some(LeastEnd {
                 end: first.pop_front()?,
                 from_first: true,
                 from_second: false,
             }),
             Ordering::Equal => {
                 second.pop_front();
-                Some(Least {
+                Some(LeastEnd {
                     end: first.pop_front()?,
                     from_first: true,
                     from_second: true,
                 })
             }
-            Ordering::Greater => Some(Least {
+            Ordering::Greater => Some(LeastEnd {
                 end: second.pop_front()?,
                 from_first: false,
                 from_second: true,

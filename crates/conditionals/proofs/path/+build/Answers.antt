@@ -1,5 +1,5 @@
 use Rattle.std.proofs.Common.{arith, ap, ◌∙◌}
-use Rattle.conditionals.specs.declared.path.Step.TheVariants as step
+use Rattle.conditionals.specs.declared.path.PathStep.TheVariants as step
 use Rattle.conditionals.specs.Steps.{lists_of, join_and, join_or, all_lists}
 use Rattle.conditionals.proofs.Finishing.{taken_up, waits_below, asked_and, asked_or}
 use Rattle.conditionals.proofs.path.+build.Goals as goal

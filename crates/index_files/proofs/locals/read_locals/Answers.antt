@@ -7,7 +7,7 @@ use Rattle.index_files.specs.File.{file_found}
 use Rattle.index_files.specs.InTurn.{OnPart, Steps}
 use Rattle.plan_types.specs.Refusal.{Answers}
 use Rattle.index_files.specs.Locals.{AreLocals, FileComes, ReadsLocals, with_file}
-use Rattle.index_files.specs.declared.file.File.{File}
+use Rattle.index_files.specs.declared.file.ReadFile.{ReadFile}
 use Rattle.index_files.specs.declared.local.Local.{Local}
 use Rattle.index_files.specs.declared.locals.Locals.{Locals}
 use Rattle.index_files.proofs.Forms.{locals-from-files}
@@ -71,7 +71,7 @@ returns-clause-told g c = if_some _ _ (λ files t.
     let f = file_found true files in
     let taken = c.loop-path.invariant.taken in
     let read : taken.0 ≡ map f c.args.paths.now = taken.2 files t ∙ ap (map f) (take_all c.loop-path.path-index c.args.paths.now c.loop-path-test.false) in
-    subst (λ (fs : List File). AreLocals c.args.env.now fs (Ok c.loop-path.locals.list)) read (whole (FileComes c.args.env.now) with_file [] c.loop-path.locals.list taken.0 taken.1))
+    subst (λ (fs : List ReadFile). AreLocals c.args.env.now fs (Ok c.loop-path.locals.list)) read (whole (FileComes c.args.env.now) with_file [] c.loop-path.locals.list taken.0 taken.1))
 
 pub returns-clause-form : goal.returns-clause-form
 returns-clause-form g c =

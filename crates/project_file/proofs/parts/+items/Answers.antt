@@ -5,7 +5,7 @@ use Rattle.plan_types.specs.declared.element.Element.TheVariants.{Section}
 use Rattle.cabal_lexer.specs.Tree.{tree_of}
 use Rattle.project_file.specs.Parts.{Says, placed}
 use Rattle.project_file.specs.Words.{section_word}
-use Rattle.project_file.specs.declared.part.Said.TheVariants.{Warning}
+use Rattle.project_file.specs.declared.part.ProjectSaid.TheVariants.{Warning}
 use Rattle.project_file.proofs.Walk.{branch_goes, field_goes, loop_goes, package_goes, section_goes, unread_goes, unsupported_goes, warned_goes}
 use Rattle.project_file.proofs.parts.+items.Goals as goal
 

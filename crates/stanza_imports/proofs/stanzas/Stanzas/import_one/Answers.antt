@@ -6,11 +6,11 @@ use Rattle.std.proofs.lemmas.Bool.{ltb-true}
 use Rattle.stanza_imports.specs.Imports.{under}
 use Rattle.stanza_imports.specs.KnownStanzas.{parts_of}
 use Rattle.stanza_imports.specs.Names.{number_of}
-use Rattle.stanza_imports.specs.declared.stanzas.Step.{Step}
+use Rattle.stanza_imports.specs.declared.stanzas.ImportStep.{ImportStep}
 use Rattle.stanza_imports.proofs.BodyMeanings.{means_same, not_there, there, empty_there, told_there}
 use Rattle.stanza_imports.proofs.stanzas.Stanzas.import_one.Goals as goal
 
-nothing : (xs : List Step) {b : Bool} → b ≡ true → b ≡ (length xs == 0) → xs ≡ []
+nothing : (xs : List ImportStep) {b : Bool} → b ≡ true → b ≡ (length xs == 0) → xs ≡ []
 nothing [] is e = refl
 nothing (x ∷ xs) {b} is e = absurd (some (length xs) b is e)
   where

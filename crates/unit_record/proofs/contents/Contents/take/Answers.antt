@@ -1,5 +1,5 @@
 use Rattle.std.proofs.Common.{Some, None, ap, ◌∙◌}
-use Rattle.unit_record.specs.declared.field.Said.TheVariants.{Name, Version, Id, Depends, LibName, Unread}
+use Rattle.unit_record.specs.declared.field.RecordSaid.TheVariants.{Name, Version, Id, Depends, LibName, Unread}
 use Rattle.unit_record.proofs.Pushed.{goes}
 use Rattle.unit_record.proofs.contents.Contents.take.Goals as goal
 

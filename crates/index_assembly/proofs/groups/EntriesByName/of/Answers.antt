@@ -1,7 +1,7 @@
 use Rattle.std.proofs.Common.{◌++◌, [], ◌∙◌, if◌then◌else◌}
 use Rattle.index_assembly.proofs.Gathering.{named-more}
 use Rattle.plan_types.specs.Bytes.{same_text}
-use Rattle.index_assembly.proofs.groups.Groups.of.Goals as goal
+use Rattle.index_assembly.proofs.groups.EntriesByName.of.Goals as goal
 
 pub loop-entry-preserved : goal.loop-entry-preserved
 loop-entry-preserved c = λ name.

@@ -1,8 +1,8 @@
 use Rattle.std.proofs.Common.{ap, ◌∙◌, [], ◌∷◌, refl}
 use Rattle.stanza_imports.specs.Standing.{joined}
 use Rattle.stanza_imports.proofs.BodyMeanings.{means_more}
-use Rattle.stanza_imports.specs.declared.stanzas.Step.TheVariants as step
-use Rattle.stanza_imports.proofs.stanzas.Body.push_part.Goals as goal
+use Rattle.stanza_imports.specs.declared.stanzas.ImportStep.TheVariants as step
+use Rattle.stanza_imports.proofs.stanzas.StanzaBody.push_part.Goals as goal
 
 pub returns : goal.returns
 returns c stanzas said means =

@@ -3,8 +3,8 @@ use Rattle.std.proofs.lemmas.Bool.{lt-ltb}
 use Rattle.stanza_imports.specs.Imports.{under}
 use Rattle.stanza_imports.specs.Standing.{joined, summary_under}
 use Rattle.stanza_imports.proofs.BodyMeanings.{means_more, summary-under}
-use Rattle.stanza_imports.specs.declared.stanzas.Step.TheVariants as step
-use Rattle.stanza_imports.proofs.stanzas.Body.push_import.Goals as goal
+use Rattle.stanza_imports.specs.declared.stanzas.ImportStep.TheVariants as step
+use Rattle.stanza_imports.proofs.stanzas.StanzaBody.push_import.Goals as goal
 
 pub returns : goal.returns
 returns c stanzas said parts means below is told =
