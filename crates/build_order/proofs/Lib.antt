@@ -1,5 +1,5 @@
 pub mod Keys
-pub mod Kept
-pub mod Unique
+pub mod OrderInvariant
+pub mod OneOrder
 pub mod Walk
-pub mod Within
+pub mod PlacedNodes

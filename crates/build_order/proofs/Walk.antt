@@ -9,7 +9,7 @@ use Rattle.build_order.specs.Order.{IsBuildOrder}
 use Rattle.common_laws.specs.Lists.{contains-none}
 use Rattle.common_laws.specs.Graphs.{HasNoCycle, IsGraph, IsMarked, IsPath, Needs, last, more}
 use Rattle.build_order.specs.Building.{needs_of}
-use Rattle.build_order.proofs.Kept.{default_past, less_left}
+use Rattle.build_order.proofs.OrderInvariant.{default_past, less_left}
 
 is : (b : Bool) → (b ≡ true) ⊎ (b ≡ true → ⊥)
 is true = inl refl

@@ -21,9 +21,9 @@ use Rattle.cabal_lexer.specs.Layout.{ends, Ends, Inside, Begins, texts, first_va
 use Rattle.cabal_lexer.specs.Canonical.{value_lines, field_text, section_line, items_text, element_text}
 use Rattle.cabal_lexer.specs.Folds.{text-field, text-section, zero-field, zero-section, return-field, return-section}
 use Rattle.cabal_lexer.specs.RoundTrip.{zero_layer, unnumbered, ends_with_return, return_layer, without_returns}
-use Rattle.cabal_lexer.proofs.Pieces.{OneLine, Piece, Piece-join, Piece-trim, Piece-trim_end, front-take, front-drop, start-same}
+use Rattle.cabal_lexer.proofs.TextPieces.{OneLine, Piece, Piece-join, Piece-trim, Piece-trim_end, front-take, front-drop, start-same}
 use Rattle.cabal_lexer.proofs.Beginnings.{IsName, IsName-lower, Named, opening-parts, within-ok, within-from, opening-bare_field, opening-field, opening-bare_section, opening-section}
-use Rattle.cabal_lexer.proofs.Printing.{joined, Clean, AllClean, clean-append, BeginsAscii, ascii-append, return-append, return-cons, kept_from-append, line_of, kept_line-printed}
+use Rattle.cabal_lexer.proofs.CanonicalLines.{joined, Clean, AllClean, clean-append, BeginsAscii, ascii-append, return-append, return-cons, kept_from-append, line_of, kept_line-printed}
 use Rattle.std.proofs.lemmas.Bool.{not-true, and_parts, and_from}
 use Rattle.text_grammar.proofs.Boundaries.{boundary_front, is_blank-ascii}
 

@@ -17,8 +17,8 @@ use Rattle.cabal_lexer.specs.Fault.{StandsFor, IsTree}
 use Rattle.cabal_lexer.specs.Canonical.{canonical}
 use Rattle.cabal_lexer.specs.RoundTrip.{unnumbered, without_returns}
 use Rattle.cabal_lexer.proofs.Runs.{front_passes}
-use Rattle.cabal_lexer.proofs.Pieces.{OneLine, Piece-trim}
-use Rattle.cabal_lexer.proofs.Printing.{lines-joined, utf8-joined, without_mark-ascii}
+use Rattle.cabal_lexer.proofs.TextPieces.{OneLine, Piece-trim}
+use Rattle.cabal_lexer.proofs.CanonicalLines.{lines-joined, utf8-joined, without_mark-ascii}
 use Rattle.cabal_lexer.proofs.Again.{KeptTexts, none, again-items}
 
 -- ---- the lines of a text in UTF-8

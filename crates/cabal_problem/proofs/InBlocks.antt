@@ -14,7 +14,7 @@ use Rattle.plan_types.specs.declared.index.Entry.{Entry}
 use Rattle.plan_types.specs.declared.index.Index.{Index}
 use Rattle.plan_types.specs.declared.index.Package.{Package}
 use Rattle.plan_types.specs.declared.version.Version.{Version}
-use Rattle.version_range.proofs.Ends.{not_below_back}
+use Rattle.version_range.proofs.RisingEnds.{not_below_back}
 use Rattle.flatten.specs.Sound.{IsInOrder, IsPackage, IsSound, releases, unit_order, units}
 use Rattle.common_laws.specs.Lists.{contains-filter, contains-head, contains-tail}
 use Rattle.solver_index.specs.Blocks.{AllAreInBlocks, AreInBlocks, MayFollow}

@@ -8,7 +8,7 @@ use Rattle.qualified_goals.specs.declared.variable.Var.{Var}
 use Rattle.qualified_goals.specs.Variable.{same_var, is_before}
 use Rattle.qualified_goals.specs.SameVariable.{same_var-is}
 use Rattle.choice_problem.specs.ConflictSet.{is_rising, has, with_var, without, place_of}
-use Rattle.qualified_goals.proofs.Order.{before-trans, before-back}
+use Rattle.qualified_goals.proofs.GoalOrder.{before-trans, before-back}
 use Rattle.choice_problem.proofs.Sets.{has-contains, rising-tail, rising-below, insert-place, before-not-same, same-back}
 use Rattle.std.proofs.Math.Bool.{or-false}
 

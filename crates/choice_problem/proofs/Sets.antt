@@ -8,7 +8,7 @@ use Rattle.qualified_goals.specs.Variable.{same_var, is_before}
 use Rattle.qualified_goals.specs.SameVariable.{same_var-is, same_var-refl}
 use Rattle.choice_problem.specs.ConflictSet.{is_rising, has, with_var, first_of, set_of, union, place_of}
 use Rattle.common_laws.specs.Lists.{contains-head, contains-tail, contains-none, contains-cases}
-use Rattle.qualified_goals.proofs.Order.{before-itself, before-trans, before-back, before-neither}
+use Rattle.qualified_goals.proofs.GoalOrder.{before-itself, before-trans, before-back, before-neither}
 
 pub same-not : (v w : Var) → (v ≡ w → ⊥) → same_var v w ≡ false
 same-not v w h = elim (same_var v w) as (λ b. same_var v w ≡ b → b ≡ false) [ true ↦ λ e. absurd (h (same_var-is v w e)) | false ↦ λ e. refl ] refl

@@ -9,7 +9,7 @@ use Rattle.common_laws.specs.Lists.{contains-head, contains-tail}
 use Rattle.qualified_goals.specs.declared.variable.Var.{Var}
 use Rattle.qualified_goals.specs.Variable.{is_before, same_var}
 use Rattle.qualified_goals.specs.SameVariable.{same_var-is, same_var-refl}
-use Rattle.qualified_goals.proofs.Order.{before-itself, before-back}
+use Rattle.qualified_goals.proofs.GoalOrder.{before-itself, before-back}
 use Rattle.choice_problem.specs.ConflictSet.{is_rising, has, without, first_behind}
 use Rattle.choice_problem.proofs.Sets.{same-back, before-not-same, has-contains, has-with_var, rising-with_var, rising-tail, rising-below, rising-same}
 use Rattle.choice_problem.proofs.InOrder.{rising-without, has-without}

@@ -15,12 +15,12 @@ use Rattle.plan_types.specs.Packages.{no_package, package_at}
 use Rattle.plan_types.specs.declared.index.Package.{Package}
 use Rattle.common_laws.specs.Small.{second-equal}
 use Rattle.qualified_goals.specs.Names.{AreInGoalOrder, Name, class_of, package_cmp, package_names}
-use Rattle.qualified_goals.proofs.Numbers.{package_cmp_total}
-use Rattle.package_declarations.proofs.StableSort.{put_all}
-use Rattle.file_answers.proofs.Sorting.{all_move, all_sorted, all_stable}
+use Rattle.qualified_goals.proofs.NameNumbers.{package_cmp_total}
+use Rattle.package_declarations.proofs.StableSorts.{put_all}
+use Rattle.file_answers.proofs.SortedInsertion.{all_move, all_sorted, all_stable}
 use Rattle.index_assembly.specs.Index.{is_package_below}
 use Rattle.index_assembly.specs.Order.{in_order}
-use Rattle.index_assembly.proofs.Sorting.{package-order, sorted-is}
+use Rattle.index_assembly.proofs.StableSorts.{package-order, sorted-is}
 
 -- a package that isn't above another, and has a different name, is below it
 below : (a b : Package) → is_package_below b a ≡ false → same_text a.name b.name ≡ false → package_cmp a b ≡ Less

@@ -14,8 +14,8 @@ use Rattle.condition_text.specs.declared.name.NameForm.TheVariants.{Compiler}
 use Rattle.condition_text.specs.Grammar.{is_compiler_name}
 use Rattle.version_range.specs.Number.{is_count}
 use Rattle.version_range.specs.Version.{IsNumber, is_version, number_after, version_text}
-use Rattle.version_range.proofs.Numbers.{numeral_text}
-use Rattle.condition_text.proofs.Names.{Run, name_ascii, run, run_reads}
+use Rattle.version_range.proofs.VersionNumbers.{numeral_text}
+use Rattle.condition_text.proofs.ConditionNames.{Run, name_ascii, run, run_reads}
 use Rattle.command_line.specs.Form.{is_compiler, is_number, is_part, is_version_text, number_in, parts_of}
 use Rattle.command_line.specs.Reading.{compiler_or}
 

@@ -1,4 +1,4 @@
 mod Settings
 mod Rows
-pub mod Places
-pub mod Never
+pub mod OutlookPlaces
+pub mod ImpossibleConditions

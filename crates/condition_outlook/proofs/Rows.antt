@@ -14,7 +14,7 @@ use Rattle.conditionals.specs.Paths.{clean_paths, holds, is_wanted, paths_of}
 use Rattle.conditionals.specs.Value.{Flags, and_then, value, value_step}
 use Rattle.conditionals.specs.declared.value.Tri.{Tri}
 use Rattle.conditionals.specs.declared.value.Tri.TheVariants.{Yes, No, Unknown}
-use Rattle.conditionals.proofs.Holding.{some_path_holds}
+use Rattle.conditionals.proofs.HoldingPaths.{some_path_holds}
 use Rattle.condition_outlook.specs.Known.{AreKnown, IsKnown}
 use Rattle.condition_outlook.specs.declared.known.Facts.{Facts}
 

@@ -15,17 +15,17 @@ use Rattle.plan_types.specs.Bytes.{is_blank}
 use Rattle.plan_types.specs.Name.{is_component_byte, is_component_name, is_flag_name}
 use Rattle.text_grammar.specs.Parts.{Led, led, Worded, worded}
 use Rattle.text_grammar.specs.Reading.{is_letter, valued}
-use Rattle.text_grammar.proofs.Fronts.{Reader}
-use Rattle.text_grammar.proofs.Spaces as spaces
+use Rattle.text_grammar.proofs.FrontReaders.{Reader}
+use Rattle.text_grammar.proofs.LeadingBlanks as spaces
 use Rattle.text_grammar.proofs.Closings.{Closed, closed}
-use Rattle.text_grammar.proofs.Steps.{Done, done, good_done}
-use Rattle.text_grammar.proofs.Letters.{Pair, same_pair, Passing, passing, Fork, here, there, pair_choose, pair_map, pair_as, pair_word, never_word, solid_word}
+use Rattle.text_grammar.proofs.ReaderSteps.{Done, done, good_done}
+use Rattle.text_grammar.proofs.LetterReaders.{Pair, same_pair, Passing, passing, Fork, here, there, pair_choose, pair_map, pair_as, pair_word, never_word, solid_word}
 use Rattle.version_range.specs.Grammar.{empty}
 use Rattle.condition_text.specs.Grammar.{Name, name, Enclosed, enclosed, Compiled, compiled, Versions, versions, WiderVersions, Atom, always, never, flag, os, arch, compiler}
 use Rattle.condition_text.specs.Reading.{named_at, begins_flag, argument, compiler_at, cond_tail, flag_at, os_at, arch_at, impl_at, word_at, from_a, from_o, after_f, from_f, atom_at}
 use Rattle.condition_text.proofs.CondKind.{cond_kind, is_open}
 use Rattle.condition_text.proofs.CondTails.{wide_tail}
-use Rattle.condition_text.proofs.Names.{Run, run, argument_pair}
+use Rattle.condition_text.proofs.ConditionNames.{Run, run, argument_pair}
 use Rattle.condition_text.proofs.Compilers.{Named, named, impl_pair}
 use Rattle.conditionals.specs.Environment.{system_of}
 

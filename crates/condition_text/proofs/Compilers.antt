@@ -13,17 +13,17 @@ use Rattle.plan_types.specs.Name.{is_letter_or_digit}
 use Rattle.text_grammar.specs.Parts.{Led, led}
 use Rattle.text_grammar.specs.Reading.{◌>>=◌}
 use Rattle.text_grammar.proofs.TextKind.{starts}
-use Rattle.text_grammar.proofs.Fronts.{Reader, errs, Apart, Read, Like, Fault, fault_up_like}
-use Rattle.text_grammar.proofs.Spaces.{Never, never_starts, starts_like}
+use Rattle.text_grammar.proofs.FrontReaders.{Reader, errs, Apart, Read, Like, Fault, fault_up_like}
+use Rattle.text_grammar.proofs.LeadingBlanks.{Never, never_starts, starts_like}
 use Rattle.text_grammar.proofs.ChainParts.{ok_parts, errs_then}
-use Rattle.text_grammar.proofs.Letters.{Reads, Pair, Passing, passing, pair_due, pair_led}
+use Rattle.text_grammar.proofs.LetterReaders.{Reads, Pair, Passing, passing, pair_due, pair_led}
 use Rattle.version_range.specs.Grammar.{empty, range}
 use Rattle.condition_text.specs.Grammar.{is_compiler_name, Versions, versions, WiderVersions, deeper, broken}
 use Rattle.condition_text.specs.Reading.{name_at, compiler_at, cond_tail, argument}
 use Rattle.condition_text.proofs.CondKind.{no_bytes, cond_kind, is_open, ends_none, apart}
 use Rattle.condition_text.proofs.Tails.{terms_start}
 use Rattle.condition_text.proofs.CondTails.{wide_tail, tail_pair}
-use Rattle.condition_text.proofs.Names.{Run, run, run_reads, run_read, name_fault}
+use Rattle.condition_text.proofs.ConditionNames.{Run, run, run_reads, run_read, name_fault}
 
 -- ---- the rest after a compiler's name begins with no name byte
 

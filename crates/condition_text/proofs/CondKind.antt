@@ -7,7 +7,7 @@ use Rattle.plan_types.specs.declared.refusal.Cause.{Cause}
 use Rattle.plan_types.specs.declared.refusal.Cause.TheVariants.{NeedsVersion, TooDeep, BadCond}
 use Rattle.plan_types.specs.Format.{is_old}
 use Rattle.text_grammar.proofs.TextKind.{Digits, Kind, ends_with}
-use Rattle.text_grammar.proofs.Fronts.{Apart, NoDigit}
+use Rattle.text_grammar.proofs.FrontReaders.{Apart, NoDigit}
 
 abbrev pub no_bytes : Digits
 no_bytes = record { digit = λ b. false; on = λ b. false; digit_on = λ b h. refl; blank_on = λ b h. refl }

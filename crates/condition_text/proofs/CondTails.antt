@@ -10,15 +10,15 @@ use Rattle.plan_types.specs.declared.range.Range.{Range}
 use Rattle.plan_types.specs.declared.range.Range.TheVariants.{Any}
 use Rattle.plan_types.specs.Bytes.{begins_with}
 use Rattle.text_grammar.proofs.TextKind.{IsNewer}
-use Rattle.text_grammar.proofs.Fronts.{Reader, head_of, errs, Apart, Read, Dead, Why, new_form, digit_due, digit_more, wider, behind_digit, no_digit, Fault, why_dead}
+use Rattle.text_grammar.proofs.FrontReaders.{Reader, head_of, errs, Apart, Read, Dead, Why, new_form, digit_due, digit_more, wider, behind_digit, no_digit, Fault, why_dead}
 use Rattle.text_grammar.proofs.ChainParts.{ok_parts}
-use Rattle.text_grammar.proofs.Exactly.{Order, shorter, same, longer, order}
-use Rattle.text_grammar.proofs.Letters.{Reads, Pair}
+use Rattle.text_grammar.proofs.ExactReadings.{Order, shorter, same, longer, order}
+use Rattle.text_grammar.proofs.LetterReaders.{Reads, Pair}
 use Rattle.plan_types.specs.Format.{is_old}
 use Rattle.version_range.specs.Grammar.{Stands, Viable}
 use Rattle.version_range.proofs.RangeKind.{decimals, range_kind}
 use Rattle.version_range.proofs.NoBraces.{is_plain, Plain, plain_append, plain_parts, stands_plain}
-use Rattle.version_range.proofs.Whole.{wider_stands}
+use Rattle.version_range.proofs.WholeRanges.{wider_stands}
 use Rattle.condition_text.specs.Grammar.{Versions, versions, WiderVersions, deeper, broken}
 use Rattle.condition_text.specs.Reading.{cond_cause, with_cond_causes, tail_at, cond_tail}
 use Rattle.condition_text.proofs.CondKind.{no_bytes, cond_kind, ends_none, apart, no_digit_stands}

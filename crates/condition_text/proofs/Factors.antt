@@ -11,13 +11,13 @@ use Rattle.plan_types.specs.Bytes.{is_blank, begins_with}
 use Rattle.text_grammar.specs.Parts.{Led, led, Terms, one}
 use Rattle.text_grammar.specs.Reading.{skip_blanks, byte_after, terms_at, valued}
 use Rattle.text_grammar.proofs.TextKind.{miss}
-use Rattle.text_grammar.proofs.Fronts.{Reader, errs, Apart, Read, Dead, Like, Fault, wider, fault_up, fault_up_like}
-use Rattle.text_grammar.proofs.Spaces.{Never, never_starts, begins_like, byte_gone, Begun, begun, skip_over, cut}
-use Rattle.text_grammar.proofs.Marks.{led_at, led_fault}
+use Rattle.text_grammar.proofs.FrontReaders.{Reader, errs, Apart, Read, Dead, Like, Fault, wider, fault_up, fault_up_like}
+use Rattle.text_grammar.proofs.LeadingBlanks.{Never, never_starts, begins_like, byte_gone, Begun, begun, skip_over, cut}
+use Rattle.text_grammar.proofs.MarkReaders.{led_at, led_fault}
 use Rattle.text_grammar.proofs.Closings.{Closed, closed, closing, closed_reads, closed_read, closed_fault}
 use Rattle.text_grammar.proofs.Operands.{Rules}
 use Rattle.text_grammar.proofs.TwoChains.{AfterTerms, close_follows, after_instead, terms_rules, wider_terms, terms_fault}
-use Rattle.text_grammar.proofs.Letters.{Reads, Pair}
+use Rattle.text_grammar.proofs.LetterReaders.{Reads, Pair}
 use Rattle.condition_text.specs.Grammar.{Versions, WiderVersions, Atom, always, Factor, atom, negated, inner_factor, InnerFactor}
 use Rattle.condition_text.specs.Reading.{atom_at, factor_at, opened_at, cond_tail, condition_at}
 use Rattle.condition_text.proofs.CondKind.{no_bytes, cond_kind, ends_none, apart, no_digit_stands}

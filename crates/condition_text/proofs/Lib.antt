@@ -1,8 +1,8 @@
 pub mod Tails
 pub mod CondKind
 pub mod CondTails
-pub mod Names
+pub mod ConditionNames
 pub mod Compilers
 pub mod Atoms
 pub mod Factors
-pub mod Whole
+pub mod WholeConditions

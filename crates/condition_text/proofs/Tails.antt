@@ -11,15 +11,15 @@ use Rattle.plan_types.specs.Bytes.{is_blank, Blanks, begins_with}
 use Rattle.text_grammar.specs.Parts.{Led, led, one, more}
 use Rattle.text_grammar.specs.Reading.{skip_blanks, byte_after}
 use Rattle.text_grammar.proofs.TextKind.{starts}
-use Rattle.text_grammar.proofs.Fronts.{Reader, head_of, errs, Apart, Read, Fault, Like, why_dead, fault_up_like}
-use Rattle.text_grammar.proofs.Spaces.{starts_like, blanks_none, Begun, begun, byte_here, byte_gone, cut, skip_over, no_digits, blanks_push}
+use Rattle.text_grammar.proofs.FrontReaders.{Reader, head_of, errs, Apart, Read, Fault, Like, why_dead, fault_up_like}
+use Rattle.text_grammar.proofs.LeadingBlanks.{starts_like, blanks_none, Begun, begun, byte_here, byte_gone, cut, skip_over, no_digits, blanks_push}
 use Rattle.text_grammar.proofs.Closings.{Closed, closed, closing, closed_reads, closed_read, closed_fault}
 use Rattle.text_grammar.proofs.ChainParts.{ok_parts}
 use Rattle.version_range.specs.Read.{missing, range_in, inside}
 use Rattle.version_range.specs.Grammar.{any, Factor, Term, Terms, Inside, empty, range, atom}
 use Rattle.version_range.proofs.RangeKind.{decimals, range_kind}
-use Rattle.version_range.proofs.Atoms.{never_atom}
-use Rattle.version_range.proofs.Factors.{AfterRange, close_follows, after_instead, never_factor, range_rules, range_fault, wider_inside, wider_terms}
+use Rattle.version_range.proofs.RangeAtoms.{never_atom}
+use Rattle.version_range.proofs.RangeFactors.{AfterRange, close_follows, after_instead, never_factor, range_rules, range_fault, wider_inside, wider_terms}
 use Rattle.condition_text.specs.Grammar.{Versions, versions}
 use Rattle.condition_text.specs.Reading.{tail_at}
 

@@ -11,7 +11,7 @@ use Rattle.conditionals.specs.declared.path.PathStep.{PathStep}
 use Rattle.conditionals.specs.declared.path.PathStep.TheVariants as step
 use Rattle.conditionals.specs.Paths.{Path, followed, paths_of}
 use Rattle.conditionals.specs.Steps.{needed, lists_of, all_lists, join_and, join_or, step_up, finish, IsSmaller, left_of_and, left_of_or, asked}
-use Rattle.conditionals.proofs.Layers.{paths_Not, paths_And, paths_Or}
+use Rattle.conditionals.proofs.ConditionLayers.{paths_Not, paths_And, paths_Or}
 
 finish_push : (env : Env) (steps : List PathStep) (step : PathStep) (lists : BothPaths) → finish env (steps ++ step ∷ []) lists ≡ finish env steps (step_up env step lists)
 finish_push env [] step lists = refl

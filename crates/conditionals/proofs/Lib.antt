@@ -1,9 +1,9 @@
-pub mod Layers
-pub mod Counting
+pub mod ConditionLayers
+pub mod PathNumbers
 mod Rows
 pub mod Followed
 pub mod Finishing
 pub mod Cleaning
-pub mod Keeping
-pub mod Joining
-pub mod Holding
+pub mod CleanedPaths
+pub mod JoinedPaths
+pub mod HoldingPaths

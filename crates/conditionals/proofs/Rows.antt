@@ -14,8 +14,8 @@ use Rattle.conditionals.specs.Count.{numbers_of}
 use Rattle.conditionals.specs.Paths.{Path, paths_of, paths_step}
 use Rattle.conditionals.specs.Table.{numbers_at, numbers_of_not, numbers_of_and, numbers_of_row}
 use Rattle.conditionals.specs.declared.count.PathCounts.{PathCounts}
-use Rattle.conditionals.proofs.Layers.{paths_Not}
-use Rattle.conditionals.proofs.Counting.{capped_product, number, numbers_And}
+use Rattle.conditionals.proofs.ConditionLayers.{paths_Not}
+use Rattle.conditionals.proofs.PathNumbers.{capped_product, number, numbers_And}
 
 capped-both : (x y z : ℕ) → capped (capped x + capped (capped y * capped z)) ≡ capped (x + y * z)
 capped-both x y z = ap (λ n. capped (capped x + n)) (capped_product y z) ∙ capped-add x (y * z)

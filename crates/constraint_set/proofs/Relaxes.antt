@@ -4,7 +4,7 @@ use Rattle.std.specs.Prelude.{IsTrue}
 use Rattle.std.proofs.lemmas.Bool.{false≢true}
 use Rattle.plan_types.specs.declared.version.Version.{Version}
 use Rattle.version_range.specs.Cuts.{HasNumbers, IsRelaxed, Relaxes, inside}
-use Rattle.version_range.proofs.Relaxing.{relaxed_twice}
+use Rattle.version_range.proofs.RelaxedCuts.{relaxed_twice}
 use Rattle.std.proofs.Math.Bool.{or-false}
 
 module _ (has : Version → Bool) (cuts : List Version) (same : (v : Version) → HasNumbers v → inside cuts v ≡ has v) where

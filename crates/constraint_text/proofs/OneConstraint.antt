@@ -1,4 +1,4 @@
--- An entry of a project's constraints has at most one reading.
+-- Shared: an entry of a project's constraints has at most one reading.
 use Rattle.std.proofs.Common.{◌≡◌, ℕ, true, false, List, ◌∷◌, ◌++◌, Option, Some, None, refl, sym, ap, ◌∙◌, subst}
 use Rattle.std.specs.Prelude.{codes, map}
 use Rattle.std.specs.Char.{to_ascii_lowercase}
@@ -16,12 +16,12 @@ use Rattle.plan_types.specs.declared.refusal.Cause.{Cause}
 use Rattle.plan_types.specs.declared.refusal.Cause.TheVariants.{BadConstraint}
 use Rattle.plan_types.specs.Name.{is_package_name}
 use Rattle.version_range.specs.Grammar.{Stands}
-use Rattle.version_range.proofs.Exact.{one_range}
+use Rattle.version_range.proofs.OneRange.{one_range}
 use Rattle.entry_text.specs.Entries.{Each, First, here, later}
 use Rattle.entry_text.specs.Entries as entries
 use Rattle.entry_text.specs.Words.{run, behind, is_name_byte, behind_name, words}
 use Rattle.constraint_text.specs.Constraints.{Target, required_by, asked_alone, Flag, on, off, Required, alone, flags, Requires, range, other, ConstraintEntry}
-use Rattle.entry_text.proofs.Only.{Settled, one_each, each_or_first}
+use Rattle.entry_text.proofs.OneReading.{Settled, one_each, each_or_first}
 use Rattle.common_laws.specs.Small.{tail_same}
 use Rattle.constraint_text.specs.Faults.{IsBadConstraint}
 use Rattle.constraint_text.proofs.OneNamed.{project_settled}

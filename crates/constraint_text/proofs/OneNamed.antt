@@ -1,11 +1,11 @@
--- An entry of a project's named ranges has at most one reading.
+-- Shared: an entry of a project's named ranges has at most one reading.
 use Rattle.std.proofs.Common.{◌≡◌, ℕ, List, sym, ◌∙◌}
 use Rattle.plan_types.specs.declared.dependency.Named.{Named}
 use Rattle.plan_types.specs.declared.range.Spec.TheVariants.{V3_0}
-use Rattle.version_range.proofs.Exact.{one_range}
+use Rattle.version_range.proofs.OneRange.{one_range}
 use Rattle.entry_text.specs.Words.{behind_name}
 use Rattle.constraint_text.specs.Named.{NamedEntry}
-use Rattle.entry_text.proofs.Only.{Settled}
+use Rattle.entry_text.proofs.OneReading.{Settled}
 use Rattle.constraint_text.specs.Faults.{IsBadConstraint}
 
 -- in a project, `BadConstraint` is the only fault of a part, and excludes a reading

@@ -1,4 +1,4 @@
--- An entry of a project's relaxings has at most one reading.
+-- Shared: an entry of a project's relaxings has at most one reading.
 use Rattle.std.proofs.Common.{◌≡◌, ℕ, Bool, true, false, List, [], ◌∷◌, ◌++◌, Option, Some, None, refl, sym, ap, ◌∙◌, subst}
 use Rattle.std.specs.Prelude.{codes}
 use Rattle.std.proofs.lemmas.Bool.{true≢false, false≢true}
@@ -14,7 +14,7 @@ use Rattle.plan_types.specs.declared.refusal.Cause.{Cause}
 use Rattle.plan_types.specs.declared.refusal.Cause.TheVariants.{BadConstraint}
 use Rattle.plan_types.specs.declared.version.Version.{Version}
 use Rattle.version_range.specs.Version.{is_version, version_text}
-use Rattle.version_range.proofs.Numbers.{one_version, version_from}
+use Rattle.version_range.proofs.VersionNumbers.{one_version, version_from}
 use Rattle.entry_text.specs.Words.{run, behind}
 use Rattle.constraint_text.specs.Relaxes.{relaxing_word, is_no_colon, is_no_dash, Release, Owner, Dependency, RelaxedBy, RelaxEntry}
 use Rattle.std.proofs.Common.{◌<◌, ◌≤◌, length, Bor, get_or, Result, Err, arith}
@@ -26,9 +26,9 @@ use Rattle.plan_types.specs.declared.refusal.TextFault.{TextFault}
 use Rattle.plan_types.specs.Refusal.{Refuses}
 use Rattle.entry_text.specs.Entries.{HasEntries}
 use Rattle.constraint_text.specs.Relaxes.{Relaxes, RelaxFault}
-use Rattle.entry_text.proofs.Cuts.{texts}
-use Rattle.entry_text.proofs.Found.{refuses_so}
-use Rattle.entry_text.proofs.Only.{Settled, one_reading, one_first, reading_or_fault}
+use Rattle.entry_text.proofs.CommaCuts.{texts}
+use Rattle.entry_text.proofs.FoundEntries.{refuses_so}
+use Rattle.entry_text.proofs.OneReading.{Settled, one_reading, one_first, reading_or_fault}
 use Rattle.constraint_text.proofs.Dashes.{same_cut}
 use Rattle.common_laws.specs.Small.{tail_same}
 use Rattle.constraint_text.specs.Faults.{IsBadConstraint}

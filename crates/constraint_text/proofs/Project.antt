@@ -6,7 +6,7 @@ use Rattle.plan_types.specs.declared.range.Range.{Range}
 use Rattle.plan_types.specs.declared.range.Spec.TheVariants.{V3_0}
 use Rattle.plan_types.specs.declared.refusal.Cause.{Cause}
 use Rattle.version_range.specs.Grammar.{Stands, FirstFault}
-use Rattle.version_range.proofs.Exact.{range_or_fault}
+use Rattle.version_range.proofs.OneRange.{range_or_fault}
 use Rattle.entry_text.specs.Words.{name_of, behind_name}
 use Rattle.constraint_text.specs.Named.{NamedEntry}
 use Rattle.constraint_text.specs.Faults.{IsBadConstraint}

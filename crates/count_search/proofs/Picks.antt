@@ -5,7 +5,7 @@ use Rattle.std.proofs.lemmas.Bool.{false≢true, or_left, or_right}
 use Rattle.qualified_goals.specs.declared.variable.Var.{Var}
 use Rattle.qualified_goals.specs.Variable.{same_var, is_before}
 use Rattle.qualified_goals.specs.SameVariable.{same_var-refl}
-use Rattle.qualified_goals.proofs.Order.{before-itself, before-back}
+use Rattle.qualified_goals.proofs.GoalOrder.{before-itself, before-back}
 use Rattle.choice_problem.specs.declared.problem.Choice.{Choice}
 use Rattle.choice_problem.specs.Problem.{Problem}
 use Rattle.choice_problem.specs.General.{general}

@@ -12,7 +12,7 @@ use Rattle.version_range.specs.Grammar.{Stands, FirstFault}
 use Rattle.entry_text.specs.Entries.{Pieces, Each, First, here, later}
 use Rattle.entry_text.specs.Words.{name_of, behind_name}
 use Rattle.depend_text.specs.Depends.{Library, Libraries, LibrariesFault, LibraryEntry, LibraryFault, Executable, ToolEntry, ToolFault}
-use Rattle.entry_text.proofs.Only.{one_cut, each_or_first}
+use Rattle.entry_text.proofs.OneReading.{one_cut, each_or_first}
 
 pub changed : {A B : Type 0} (P : A → B → Type 0) (a a' : A) (b b' : B) → a ≡ a' → b ≡ b' → P a b → P a' b'
 changed P a a' b b' e f h = subst (λ y. P a' y) f (subst (λ x. P x b) e h)

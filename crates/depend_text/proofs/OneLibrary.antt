@@ -1,4 +1,4 @@
--- An entry of dependencies has at most one reading, at most one fault, and never both.
+-- Shared: an entry of dependencies has at most one reading, at most one fault, and never both.
 use Rattle.std.proofs.Common.{◌≡◌, ℕ, true, false, List, [], ◌∷◌, sym, ap, ◌∙◌, subst}
 use Rattle.std.proofs.lemmas.Bool.{true≢false, false≢true}
 use Rattle.plan_types.specs.Bytes.{begins_with}
@@ -11,11 +11,11 @@ use Rattle.plan_types.specs.declared.range.Spec.{Spec}
 use Rattle.plan_types.specs.Format.{is_old}
 use Rattle.plan_types.specs.declared.refusal.Cause.{Cause}
 use Rattle.version_range.specs.Grammar.{Stands, FirstFault}
-use Rattle.version_range.proofs.Exact.{one_range, one_fault, range_or_fault}
+use Rattle.version_range.proofs.OneRange.{one_range, one_fault, range_or_fault}
 use Rattle.entry_text.specs.Entries.{Pieces, Each}
 use Rattle.entry_text.specs.Words.{run, behind, is_in_braces, name_of, behind_name}
 use Rattle.depend_text.specs.Depends.{Library, NamedLibraries, one, several, Libraries, main, named, LibrariesFault, old, broken, LibraryEntry, LibraryFault, Executable, ToolEntry, ToolFault, old_cause}
-use Rattle.entry_text.proofs.Only.{Settled, one_cut, one_each}
+use Rattle.entry_text.proofs.OneReading.{Settled, one_cut, one_each}
 use Rattle.common_laws.specs.Small.{tail_same}
 
 old_or_new : (spec : Spec) → is_old spec ≡ true → is_old spec ≡ false → ⊥

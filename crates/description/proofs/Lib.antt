@@ -2,5 +2,5 @@ pub mod FirstBadLine
 pub mod CircularComponents
 pub mod FirstFaults
 pub mod OneOutcome
-pub mod OnlyOutcome
+pub mod SingleOutcome
 pub mod RepeatedNames

@@ -8,7 +8,7 @@ use Rattle.plan_types.specs.declared.element.Element.{Element}
 use Rattle.plan_types.specs.declared.range.Spec.{Spec}
 use Rattle.plan_types.specs.declared.version.Version.{Version}
 use Rattle.component_cycle.specs.Cycle.{IsFirstOnCycle}
-use Rattle.section_syntax.proofs.One.{one_file}
+use Rattle.section_syntax.proofs.OneFile.{one_file}
 use Rattle.section_syntax.specs.declared.part.File.{File}
 use Rattle.package_declarations.specs.Cycles.{needs}
 use Rattle.package_declarations.proofs.FlagOrder.{one-flags}

@@ -1,4 +1,4 @@
--- The kept names are those of the earlier sections.
+-- Shared: the kept names are those of the earlier sections.
 use Rattle.std.proofs.Common.{◌≡◌, ℕ, Bool, true, false, not, ◌&&◌, ◌||◌, if◌then◌else◌, List, [], ◌∷◌, ◌++◌, flat_map, sym, ap, ◌∙◌, refl}
 use Rattle.std.specs.List.{list_all}
 use Rattle.std.proofs.Math.Bool.{or-false}

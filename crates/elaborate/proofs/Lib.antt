@@ -1,9 +1,9 @@
-pub mod Order
+pub mod NodeOrder
 pub mod Telling
 pub mod Members
 pub mod Ranking
-pub mod Planned
-pub mod Needed
+pub mod PlannedNodes
+pub mod NeedsBefore
 pub mod Whole
 pub mod Sorted
 pub mod Ties

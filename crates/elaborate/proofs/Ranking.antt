@@ -7,7 +7,7 @@ use Rattle.common_laws.specs.Lists.{contains-cases, contains-head, contains-none
 use Rattle.plan_components.specs.declared.node.Node.{Node}
 use Rattle.plan_components.specs.SameNode.{node-is, node-self, place_of, same_node}
 use Rattle.plan_components.specs.Steps.{node_at}
-use Rattle.node_lines.proofs.Places.{at_place}
+use Rattle.node_lines.proofs.NodePlaces.{at_place}
 use Rattle.elaborate.specs.declared.told.Told.{Told}
 use Rattle.elaborate.specs.Plan.{nodes_of}
 use Rattle.elaborate.specs.Ranks.{ranks_after, ranks_from, with_rank}

@@ -14,7 +14,7 @@ use Rattle.plan_components.specs.declared.node.Piece.{Piece}
 use Rattle.plan_components.specs.declared.node.Piece.TheVariants.{One, Whole}
 use Rattle.plan_components.specs.Chosen.{Selection}
 use Rattle.node_lines.specs.Lines.{HasLine}
-use Rattle.node_lines.proofs.Once.{one}
+use Rattle.node_lines.proofs.OneLine.{one}
 use Rattle.elaborate.specs.declared.told.Told.{Told}
 use Rattle.elaborate.specs.Told.{node_cmp, piece_cmp, told_cmp}
 

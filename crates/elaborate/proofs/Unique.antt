@@ -3,14 +3,14 @@ use Rattle.std.proofs.Common.{◌≡◌, ◌≢◌, ◌<◌, List, [], map, sym,
 use Rattle.std.specs.List.{AllPairs, Contains}
 use Rattle.std.proofs.lemmas.List.{get_or-map, length-map}
 use Rattle.build_order.specs.Order.{IsBuildOrder}
-use Rattle.build_order.proofs.Unique.{same_rest}
+use Rattle.build_order.proofs.OneOrder.{same_rest}
 use Rattle.plan_nodes.specs.declared.node.PlanNode.{PlanNode}
 use Rattle.plan_nodes.specs.Once.{each_line_once}
 use Rattle.plan_components.specs.Chosen.{Selection}
 use Rattle.elaborate.specs.declared.told.Told.{Told}
 use Rattle.elaborate.specs.Plan.{AreRanked, IsPlan, graph_of, line_at}
 use Rattle.elaborate.specs.Told.{told_cmp}
-use Rattle.elaborate.proofs.Order.{told-total}
+use Rattle.elaborate.proofs.NodeOrder.{told-total}
 use Rattle.elaborate.proofs.Sorted.{all-after, one-list}
 use Rattle.elaborate.proofs.Ties.{tie}
 

@@ -17,12 +17,12 @@ use Rattle.plan_components.specs.SameNode.{place_of}
 use Rattle.plan_components.specs.Steps.{no_node}
 use Rattle.node_lines.specs.Lines.{HasLine, HaveLines, told}
 use Rattle.node_lines.specs.Numbers.{row_of}
-use Rattle.node_lines.proofs.Once.{one}
-use Rattle.node_lines.proofs.Places.{IsAt, at_place}
+use Rattle.node_lines.proofs.OneLine.{one}
+use Rattle.node_lines.proofs.NodePlaces.{IsAt, at_place}
 use Rattle.elaborate.specs.declared.told.Told.{Told}
 use Rattle.elaborate.specs.Plan.{AreRanked, IsPlan, graph_of, line_at, no_told, nodes_of}
 use Rattle.elaborate.specs.Whole.{LacksNone}
-use Rattle.elaborate.proofs.Needed.{once-kept}
+use Rattle.elaborate.proofs.NeedsBefore.{once-kept}
 
 -- membership of a number is decidable
 decide : (places : List ℕ) (u : ℕ) → Contains places u ⊎ (Contains places u → ⊥)

@@ -4,7 +4,7 @@ use Rattle.std.specs.Prelude.{filter}
 use Rattle.std.proofs.lemmas.List.{take_more, map-append}
 use Rattle.std.proofs.lemmas.List.Elements.{filter-append}
 use Rattle.entry_text.specs.Words.{is_word}
-use Rattle.entry_text.proofs.Cuts.{texts}
+use Rattle.entry_text.proofs.CommaCuts.{texts}
 
 one_more : (parts : List (Bor (List ℕ))) (i : ℕ) (d : Bor (List ℕ)) → i < length parts
     → filter is_word (texts (take (i + 1) parts)) ≡ filter is_word (texts (take i parts)) ++ filter is_word ((get_or parts i d).now ∷ [])

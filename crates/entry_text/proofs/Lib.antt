@@ -1,5 +1,5 @@
-pub mod Cuts
-pub mod Found
+pub mod CommaCuts
+pub mod FoundEntries
 pub mod Ascii
-pub mod Only
+pub mod OneReading
 pub mod Filtered

@@ -1,9 +1,9 @@
 pub mod Readings
 pub mod Trees
-pub mod Records
+pub mod RecordAnswers
 pub mod Sections
-pub mod Sorting
-pub mod Cycles
+pub mod SortedInsertion
+pub mod CycleAnswers
 pub mod Descriptions
-pub mod Sources
-pub mod Projects
+pub mod SourceAnswers
+pub mod ProjectAnswers

@@ -9,9 +9,9 @@ use Rattle.text_grammar.specs.Outcome.{Read}
 use Rattle.condition_text.specs.Grammar.{Stands, FirstFault}
 use Rattle.depend_text.specs.Depends.{LibraryEntry, LibraryFault, ToolEntry, ToolFault, Depends, DependsFault, Tools, ToolsFault}
 use Rattle.text_answers.specs.Answered.{Answered}
-use Rattle.text_answers.proofs.Depends.{some_library, some_tool}
-use Rattle.text_answers.proofs.Entries.{some_reading}
-use Rattle.text_answers.proofs.Readings.{some_condition}
+use Rattle.text_answers.proofs.DependencyAnswers.{some_library, some_tool}
+use Rattle.text_answers.proofs.EntryAnswers.{some_reading}
+use Rattle.text_answers.proofs.LoopReadings.{some_condition}
 
 -- some value has the property
 abbrev pub Exists : {A : Type 0} → (A → Type 0) → Type 0

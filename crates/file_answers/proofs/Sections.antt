@@ -29,7 +29,7 @@ use Rattle.section_syntax.specs.declared.words.HeadWord.{HeadWord}
 use Rattle.section_syntax.specs.declared.words.HeadWord.TheVariants as words
 use Rattle.section_syntax.specs.declared.words.InnerWord.{InnerWord}
 use Rattle.section_syntax.specs.declared.words.InnerWord.TheVariants as inner
-use Rattle.text_answers.proofs.Readings.{version_or_none}
+use Rattle.text_answers.proofs.LoopReadings.{version_or_none}
 use Rattle.file_answers.proofs.Readings.{condition_read, depends_read, tools_read}
 
 module _ (spec : Spec) where

@@ -8,8 +8,8 @@ use Rattle.plan_types.specs.declared.refusal.Cause.{Cause}
 use Rattle.plan_types.specs.declared.refusal.Cause.TheVariants.{NotUtf8}
 use Rattle.cabal_lexer.specs.Fault.{StandsFor, FirstFault, IsTree, IsFault, bad_line}
 use Rattle.cabal_lexer.specs.Lines.{Line, kept_lines}
-use Rattle.cabal_lexer.proofs.Exact.{whole_cut, first_fault}
-use Rattle.cabal_lexer.proofs.Total.{judge, stands_cut, fails_at}
+use Rattle.cabal_lexer.proofs.OneTree.{whole_cut, first_fault}
+use Rattle.cabal_lexer.proofs.LineCutting.{judge, stands_cut, fails_at}
 
 abbrev HasItems : List Line → Type 0
 HasItems lines = ((items : List Element) × StandsFor lines items) ⊎ ((line : ℕ) × (cause : Cause) × FirstFault lines line cause)

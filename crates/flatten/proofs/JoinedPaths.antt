@@ -9,9 +9,9 @@ use Rattle.plan_types.specs.Guarded.{GuardedDep}
 use Rattle.plan_types.specs.declared.index.FlatDep.{FlatDep}
 use Rattle.conditionals.specs.Layers.{paths-And}
 use Rattle.conditionals.specs.Paths.{Path, paths_of, followed, clean_paths}
-use Rattle.conditionals.proofs.Joining.{cleaned_before_joined}
+use Rattle.conditionals.proofs.JoinedPaths.{cleaned_before_joined}
 use Rattle.common_laws.specs.Small.{capped}
-use Rattle.conditionals.proofs.Counting.{capped_product, length_followed}
+use Rattle.conditionals.proofs.PathNumbers.{capped_product, length_followed}
 use Rattle.flatten.specs.Demands.{ExternalDep, outward_of, outward_in, paths_at, demands_at, flat_of, has_too_many_paths, first_among}
 use Rattle.flatten.specs.Ways.{few_paths, number_of_both, paths_of_both, ways_of}
 use Rattle.flatten.specs.declared.ways.Ways.{Ways}

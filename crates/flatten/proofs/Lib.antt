@@ -1,4 +1,4 @@
 mod FirstBeyond
 mod JoinedPaths
 mod Counting
-pub mod Groups
+pub mod DependencyGroups

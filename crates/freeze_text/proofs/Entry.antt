@@ -11,7 +11,7 @@ use Rattle.plan_types.specs.declared.constraint.Scope.TheVariants as scopes
 use Rattle.plan_types.specs.Name.{is_letter_or_digit, is_package_name}
 use Rattle.entry_text.specs.Words.{run, behind, is_name_byte, name_of, behind_name}
 use Rattle.constraint_text.specs.Constraints.{Target, top, word, setup_of, scope_of, ConstraintEntry}
-use Rattle.cabal_lexer.proofs.Pieces.{prefix-past}
+use Rattle.cabal_lexer.proofs.TextPieces.{prefix-past}
 use Rattle.freeze_text.specs.Reads.{IsPlainConstraint, is_plain_scope}
 use Rattle.freeze_text.specs.Text.{constraint_text, scope_text, what_text}
 use Rattle.freeze_text.proofs.Plain.{Begins, name-begins, name-bytes}

@@ -16,8 +16,8 @@ use Rattle.plan_types.specs.Name.{is_letter_or_digit}
 use Rattle.common_laws.specs.Lists.{all-at, all-where}
 use Rattle.cabal_lexer.specs.Lines.{Line, indent, is_comment, is_kept, kept_from, kept_line, kept_lines, trim, trim_end, trim_start}
 use Rattle.cabal_lexer.specs.RoundTrip.{ends_with_return}
-use Rattle.cabal_lexer.proofs.Pieces.{OneLine, Piece}
-use Rattle.cabal_lexer.proofs.Printing.{AllClean, Clean, joined, kept_line-printed, line_of, lines-joined, return-cons, utf8-joined, without_mark-ascii}
+use Rattle.cabal_lexer.proofs.TextPieces.{OneLine, Piece}
+use Rattle.cabal_lexer.proofs.CanonicalLines.{AllClean, Clean, joined, kept_line-printed, line_of, lines-joined, return-cons, utf8-joined, without_mark-ascii}
 use Rattle.freeze_text.specs.Reads.{IsPlainConstraint}
 use Rattle.freeze_text.specs.Text.{constraint_text, end_text, freeze_text, line_text, lines_text}
 use Rattle.freeze_text.proofs.Plain.{constraint-plain, is_plain_byte, no-newline, no-return, plain-ascii, without-byte}

@@ -23,7 +23,7 @@ use Rattle.version_range.specs.declared.print.RangePlace.{RangePlace}
 use Rattle.version_range.specs.declared.print.RangePlace.TheVariants.{Whole}
 use Rattle.version_range.specs.Print.{range_text, text_in, text_step}
 use Rattle.version_range.specs.Version.{IsVersion, version_text}
-use Rattle.version_range.proofs.Numbers.{decimal_digits, version_from}
+use Rattle.version_range.proofs.VersionNumbers.{decimal_digits, version_from}
 use Rattle.entry_text.specs.Words.{is_name_byte}
 use Rattle.common_laws.specs.Passing.{all-less}
 use Rattle.freeze_text.specs.Reads.{IsPlain, version, installed, source, flags, IsPlainConstraint, is_plain_flag, is_plain_scope}

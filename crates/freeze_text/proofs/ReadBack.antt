@@ -13,8 +13,8 @@ use Rattle.cabal_lexer.specs.Opening.{field, field_opening, is_lone, lower_case,
 use Rattle.cabal_lexer.specs.Layout.{Begins, Inside, Stands, element, nothing, run, texts}
 use Rattle.cabal_lexer.specs.Fault.{StandsFor}
 use Rattle.cabal_lexer.specs.Tree.{end, tree_of}
-use Rattle.cabal_lexer.proofs.Trees.{field_in_front}
-use Rattle.cabal_lexer.proofs.Printing.{line_of}
+use Rattle.cabal_lexer.proofs.ElementTrees.{field_in_front}
+use Rattle.cabal_lexer.proofs.CanonicalLines.{line_of}
 use Rattle.constraint_text.specs.Constraints.{Constraints}
 use Rattle.project_file.specs.Fields.{FieldSays}
 use Rattle.project_file.specs.Parts.{Says, placed}

@@ -14,7 +14,7 @@ use Rattle.plan_types.specs.declared.constraint.Scope.TheVariants.{Top, Any, Set
 use Rattle.plan_types.specs.declared.constraint.What.{What}
 use Rattle.plan_types.specs.Name.{is_component_byte, is_flag_name, is_letter_or_digit}
 use Rattle.version_range.specs.Version.{IsVersion, version_text}
-use Rattle.version_range.proofs.Numbers.{decimal_digits, decimal_some, version_from}
+use Rattle.version_range.proofs.VersionNumbers.{decimal_digits, decimal_some, version_from}
 use Rattle.entry_text.specs.Entries.{are_blanks}
 use Rattle.common_laws.specs.Passing.{all-less}
 use Rattle.freeze_text.specs.Reads.{IsPlain, version, installed, source, flags, IsPlainConstraint, is_plain_flag, is_plain_scope}

@@ -10,7 +10,7 @@ use Rattle.common_laws.specs.Lists.{contains-head, contains-tail, contains-cases
 use Rattle.qualified_goals.specs.declared.variable.Var.{Var}
 use Rattle.qualified_goals.specs.Variable.{is_before, same_var}
 use Rattle.qualified_goals.specs.SameVariable.{same_var-is, same_var-refl}
-use Rattle.qualified_goals.proofs.Order.{before-itself, before-trans, before-back, before-neither}
+use Rattle.qualified_goals.proofs.GoalOrder.{before-itself, before-trans, before-back, before-neither}
 use Rattle.choice_problem.specs.ConflictSet.{is_rising, has, with_var, without}
 use Rattle.choice_problem.proofs.Sets.{same-not, before-not-same, same-back, rising-tail, rising-with_var, rising-below, rising-same, has-with_var, contains-has, has-contains as has-in}
 use Rattle.choice_problem.proofs.InOrder.{rising-without, has-without}

@@ -18,7 +18,7 @@ use Rattle.index_files.specs.Readings.{AreIndexed}
 use Rattle.index_files.specs.Totals.{is_too_many}
 use Rattle.index_files.specs.declared.closure.FoundName.{FoundName}
 use Rattle.index_files.specs.declared.readings.Readings.{Readings}
-use Rattle.index_files.proofs.Put.{all-last, all-put, all-still, each-all-still, put-all-distinct, put-all-each, put-all-grows}
+use Rattle.index_files.proofs.AddedNames.{all-last, all-put, all-still, each-all-still, put-all-distinct, put-all-each, put-all-grows}
 use Rattle.common_laws.specs.Each.{each-append, each-back, each-front, each-of-map}
 use Rattle.index_answers.proofs.Fertile.{fertile, known_names}
 use Rattle.index_answers.proofs.Lists.{distinct_front, each_of, left, left_drops, left_less, not_in_front}

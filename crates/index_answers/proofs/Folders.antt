@@ -18,7 +18,7 @@ use Rattle.index_files.specs.declared.readings.Readings.{Readings}
 use Rattle.index_files.specs.declared.unit.Unit.{Unit}
 use Rattle.index_assembly.specs.Folder.{Gathers, IsFolderIndex}
 use Rattle.index_assembly.specs.Index.{index_of}
-use Rattle.file_answers.proofs.Projects.{some_project}
+use Rattle.file_answers.proofs.ProjectAnswers.{some_project}
 use Rattle.index_answers.proofs.Closures.{some_indexed}
 use Rattle.index_answers.proofs.Lacking.{some_lacking}
 use Rattle.index_answers.proofs.Readings.{go_on, some_locals, some_units}

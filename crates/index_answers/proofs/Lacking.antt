@@ -8,7 +8,7 @@ use Rattle.std.proofs.lemmas.List.{length-map}
 use Rattle.common_laws.specs.Graphs.{IsMarked, Needs, marked_within, needs_within}
 use Rattle.common_laws.specs.Lists.{any-at, any-from}
 use Rattle.broken_units.specs.Leads.{ReachesMarked, here, over}
-use Rattle.file_answers.proofs.Cycles.{below_more}
+use Rattle.file_answers.proofs.CycleAnswers.{below_more}
 use Rattle.index_files.specs.declared.unit.Unit.{Unit}
 use Rattle.index_assembly.specs.Lacks.{AreLacking, lacks_one, needed_places}
 

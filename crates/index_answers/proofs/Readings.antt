@@ -17,8 +17,8 @@ use Rattle.index_files.specs.Sources.{Comes, OfBytes, bytes_in}
 use Rattle.index_files.specs.Units.{OfRecord, ReadsUnits, RecordComes, record_files, record_outcome, unless_beyond, with_record}
 use Rattle.index_files.specs.declared.local.Local.{Local}
 use Rattle.index_files.specs.declared.unit.Unit.{Unit}
-use Rattle.file_answers.proofs.Records.{some_record}
-use Rattle.file_answers.proofs.Sources.{some_source}
+use Rattle.file_answers.proofs.RecordAnswers.{some_record}
+use Rattle.file_answers.proofs.SourceAnswers.{some_source}
 
 -- the outcome after a value or a refusal
 pub go_on : {S T R : Type 0} (next : Result S R) (Rest : S → Result T R → Type 0) → ((s : S) → (outcome : Result T R) × Rest s outcome)

@@ -11,7 +11,7 @@ use Rattle.index_files.specs.Closure.{Ground, IsVisit, ReadsAs, is_local}
 use Rattle.index_files.specs.File.{count_all, count_of}
 use Rattle.index_files.specs.Releases.{AreReleases, AreVersions, IsOneRelease, IsReleaseIn, files_below, judged_as, names_below, version_dir}
 use Rattle.index_files.specs.declared.release.Release.{Release}
-use Rattle.text_answers.proofs.Readings.{version_or_none}
+use Rattle.text_answers.proofs.LoopReadings.{version_or_none}
 use Rattle.index_answers.proofs.Readings.{comes}
 
 some_versions : (names : List Name) → (dirs : _) × AreVersions names dirs

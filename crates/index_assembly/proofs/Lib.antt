@@ -1,4 +1,4 @@
 pub mod Gathering
 pub mod Lists
 pub mod Made
-pub mod Sorting
+pub mod StableSorts

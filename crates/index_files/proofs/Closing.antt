@@ -19,7 +19,7 @@ use Rattle.index_files.specs.declared.release.Release.{Release}
 use Rattle.index_files.specs.declared.totals.Totals.{Totals}
 use Rattle.common_laws.specs.Each.{each-append, each-front}
 use Rattle.index_files.proofs.Pairs.{pair_front, pair_grows, pair_more, pair_names, pair_none}
-use Rattle.index_files.proofs.Put.{all-last, all-put, all-still, each-all-still, listed-last, listed-left, put-all-distinct, put-all-each, put-all-grows}
+use Rattle.index_files.proofs.AddedNames.{all-last, all-put, all-still, each-all-still, listed-last, listed-left, put-all-distinct, put-all-each, put-all-grows}
 use Rattle.plan_types.specs.Bytes.{same_text}
 
 -- ---- members

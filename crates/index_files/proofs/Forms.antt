@@ -2,7 +2,7 @@
 use Rattle.std.proofs.Common.{◌≡◌, ℕ, true, List, [], ◌∷◌, ◌++◌, map, Option, Some, None, Result, Ok, Err, refl, sym, ◌∙◌, ap, subst}
 use Rattle.std.specs.Prelude.{position}
 use Rattle.std.specs.List.{AllByRecursion, IsDistinct, list_all}
-use Rattle.package_declarations.proofs.Positions.{position-none}
+use Rattle.package_declarations.proofs.FirstPlaces.{position-none}
 use Rattle.description.specs.declared.fault_order.At.{At}
 use Rattle.outside_folder.specs.Files.{Bytes}
 use Rattle.plan_types.specs.declared.condition.Env.{Env}

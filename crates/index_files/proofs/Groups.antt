@@ -7,7 +7,7 @@ use Rattle.plan_types.specs.declared.dependency.Dep.{Dep}
 use Rattle.plan_types.specs.declared.description.Component.{Component}
 use Rattle.plan_types.specs.declared.description.DepGroup.{DepGroup}
 use Rattle.flatten.specs.Demands.{external, outward_among, outward_of}
-use Rattle.flatten.proofs.Groups.{outward-append}
+use Rattle.flatten.proofs.DependencyGroups.{outward-append}
 use Rattle.index_files.specs.Releases.{outward_name}
 use Rattle.outside_folder.specs.Files.{Bytes}
 

@@ -2,7 +2,7 @@
 use Rattle.std.proofs.Common.{◌≡◌, List, [], ◌∷◌, ◌++◌, length, map, None, refl, sym, ◌∙◌, ap, append_assoc, append-nil, if◌then◌else◌, arith}
 use Rattle.std.specs.Prelude.{position}
 use Rattle.indexmap.specs.IndexSet.{insert_key}
-use Rattle.package_declarations.proofs.Positions.{position-none}
+use Rattle.package_declarations.proofs.FirstPlaces.{position-none}
 use Rattle.plan_types.specs.declared.condition.Env.{Env}
 use Rattle.outside_folder.specs.Files.{Bytes}
 use Rattle.outside_folder.specs.declared.folder.Name.{Name}

@@ -2,14 +2,14 @@ pub mod Apart
 pub mod Closing
 pub mod Ending
 pub mod Finding
-pub mod Fitting
+pub mod FileTotals
 pub mod Forms
 pub mod Joined
-pub mod Lists
+pub mod KnownFiles
 pub mod Pairs
-pub mod Put
+pub mod AddedNames
 pub mod Recording
 pub mod Records
-pub mod Turns
+pub mod StepsInTurn
 pub mod Visiting
 mod Groups

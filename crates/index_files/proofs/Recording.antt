@@ -17,8 +17,8 @@ use Rattle.index_files.specs.declared.totals.Totals.{Totals}
 use Rattle.index_files.specs.declared.unit.Unit.{Unit}
 use Rattle.index_files.specs.declared.units.Counted.{Counted}
 use Rattle.index_files.specs.declared.units.Units.{Units}
-use Rattle.index_files.proofs.Fitting.{Fit, fit_all, fit_ends, fit_more}
-use Rattle.index_files.proofs.Turns.{Through, refused, whole}
+use Rattle.index_files.proofs.FileTotals.{Fit, fit_all, fit_ends, fit_more}
+use Rattle.index_files.proofs.StepsInTurn.{Through, refused, whole}
 
 pub fit-first : (t : Totals) → t.files ≡ 0 → t.bytes ≡ 0 → Fit 0 0 [] t.files t.bytes
 fit-first t f b rest = λ i. fitting (sym f i) (sym b i) rest

@@ -15,7 +15,7 @@ use Rattle.plan_types.specs.declared.index.Places.{Places}
 use Rattle.index_files.specs.declared.release.Release.{Release}
 use Rattle.index_files.specs.declared.totals.Totals.{Totals}
 use Rattle.index_files.specs.declared.versions.VersionDir.{VersionDir}
-use Rattle.index_files.proofs.Fitting.{fit-or-beyond}
+use Rattle.index_files.proofs.FileTotals.{fit-or-beyond}
 
 not-equal : (n m : ℕ) → true ≡ not (n == m) → n ≡ m → ⊥
 not-equal n m h e = grind (arith, nat_tests)

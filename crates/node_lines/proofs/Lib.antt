@@ -1,4 +1,4 @@
 pub mod Gathering
-pub mod Places
-pub mod Making
-pub mod Once
+pub mod NodePlaces
+pub mod LineMaking
+pub mod OneLine

@@ -1,4 +1,4 @@
--- The flags of a condition are all declared iff those of its parts are.
+-- Shared: the flags of a condition are all declared iff those of its parts are.
 use Rattle.std.proofs.Common.{◌≡◌, Bool, true, false, ◌&&◌, List, ℕ, sym, ap, ◌∙◌, refl}
 use Rattle.std.proofs.lemmas.Bool.{and_right}
 use Rattle.plan_types.specs.declared.condition.Cond.{Cond}

@@ -1,4 +1,4 @@
--- A stable sort of flags by name is insertion sort, and so has one result.
+-- Shared: a stable sort of flags by name is insertion sort, and so has one result.
 use Rattle.std.proofs.Common.{◌≡◌, ℕ, true, false, List, [], ◌∷◌, if◌then◌else◌, refl, sym, ap, ◌∙◌}
 use Rattle.std.specs.Prelude.{codes}
 use Rattle.std.specs.Cmp.{IsStrictWeakOrder}
@@ -9,7 +9,7 @@ use Rattle.std.proofs.lemmas.List.Sorted.{ranks_by}
 use Rattle.plan_types.specs.declared.description.FlagDecl.{FlagDecl}
 use Rattle.section_syntax.specs.declared.part.Section.{Section}
 use Rattle.package_declarations.specs.Flags.{AreFlags, declared_flags, name_before}
-use Rattle.package_declarations.proofs.StableSort.{put, put_all, stable-is}
+use Rattle.package_declarations.proofs.StableSorts.{put, put_all, stable-is}
 
 -- inserts a flag before the first whose name isn't less
 abbrev pub insert : FlagDecl → List FlagDecl → List FlagDecl

@@ -3,7 +3,7 @@ use Rattle.std.proofs.Common.{◌≡◌, ℕ, List, [], ◌∷◌, ◌++◌, ap,
 use Rattle.std.specs.Prelude.{Option}
 use Rattle.std.specs.Option.{option_or}
 use Rattle.text_grammar.specs.Last.{last_given}
-use Rattle.text_grammar.proofs.LastSaid.{last_push}
+use Rattle.text_grammar.proofs.LastValue.{last_push}
 use Rattle.section_syntax.specs.declared.part.Head.{Head}
 use Rattle.section_syntax.specs.declared.part.Head.TheVariants as head
 use Rattle.section_syntax.specs.declared.part.HeadField.{HeadField}

@@ -1,6 +1,6 @@
 -- Branches in a table that grows.
 use Rattle.std.proofs.Common.{◌≡◌, ℕ, zero, suc, List, [], ◌∷◌, ◌++◌, map, take, slice_get, Option, None, Some, refl, sym, subst, ap, ◌∙◌, append_assoc, append-nil}
-use Rattle.plan_types.proofs.Tables.{get-front}
+use Rattle.plan_types.proofs.ConditionTables.{get-front}
 use Rattle.plan_types.specs.declared.condition.Cond.{Cond}
 use Rattle.plan_types.specs.declared.condition.Cond.TheVariants.{And}
 use Rattle.section_syntax.specs.Branch.{all_of, condition, joined, with_chain}

@@ -5,8 +5,8 @@ pub mod FlagFolds
 pub mod LastValues
 pub mod LastNames
 pub mod Numbering
-pub mod Positions
+pub mod FirstPlaces
 pub mod PushLoops
 pub mod SetupParts
 pub mod ShownComponents
-pub mod StableSort
+pub mod StableSorts

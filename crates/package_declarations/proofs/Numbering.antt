@@ -15,7 +15,7 @@ use Rattle.package_declarations.specs.Declarations.{as_list}
 use Rattle.stanza_imports.specs.Names.{has, number_of, with_name}
 use Rattle.package_declarations.specs.Numbers.{Numbered, number_beside, number_at, needs_by}
 use Rattle.package_declarations.specs.declared.cycle.Numbers.{Numbers}
-use Rattle.package_declarations.proofs.Positions.{or_else, or-else-kept, position-push, position-inside, position-none, get-push, get-last}
+use Rattle.package_declarations.proofs.FirstPlaces.{or_else, or-else-kept, position-push, position-inside, position-none, get-push, get-last}
 use Rattle.plan_types.specs.Bytes.{same_text}
 use Rattle.plan_types.specs.Packages.{library_name}
 

@@ -7,7 +7,7 @@ use Rattle.std.proofs.lemmas.Bool.{false≢true, or_parts}
 use Rattle.std.proofs.lemmas.Cmp.{nat_list_eq_equiv}
 use Rattle.std.proofs.lemmas.List.Quantifiers.{position-Some}
 use Rattle.std.proofs.lemmas.Option.{none-some, same_Some, slice_get-get_or, slice_get-map}
-use Rattle.package_declarations.proofs.Positions.{position-none}
+use Rattle.package_declarations.proofs.FirstPlaces.{position-none}
 use Rattle.package_index.proofs.Distinct.{is_named, other-name}
 use Rattle.common_laws.specs.Each.{each-at, each-of-map, each-then, some-map}
 use Rattle.plan_types.specs.Bytes.{same_text}

@@ -15,7 +15,7 @@ use Rattle.package_index.proofs.Outcomes.{HasOneSource}
 use Rattle.package_index.proofs.Taken.{IsIn, Leaves, at-in, left-count, taken, taken-all}
 use Rattle.package_index.proofs.Visits.{has-versions, one-visit, same-dirs}
 use Rattle.plan_types.specs.Bytes.{same_text}
-use Rattle.index_files.proofs.Fitting.{more_is_too_many}
+use Rattle.index_files.proofs.FileTotals.{more_is_too_many}
 
 -- ---- members
 

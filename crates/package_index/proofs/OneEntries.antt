@@ -16,7 +16,7 @@ use Rattle.plan_types.specs.declared.index.Entry.{Entry}
 use Rattle.plan_types.specs.declared.index.Package.{Package}
 use Rattle.plan_types.specs.declared.index.Skipped.{Skipped}
 use Rattle.qualified_goals.specs.Names.{package_cmp}
-use Rattle.qualified_goals.proofs.Numbers.{package_cmp_total}
+use Rattle.qualified_goals.proofs.NameNumbers.{package_cmp_total}
 use Rattle.outside_folder.specs.Files.{Bytes, Files}
 use Rattle.index_files.specs.Closure.{Ground, IsVisit, Visit, found_of, names_of}
 use Rattle.plan_types.specs.declared.index.Places.{Places}

@@ -17,7 +17,7 @@ use Rattle.index_files.specs.Units.{OfRecord, ReadsUnits, RecordComes, record_fi
 use Rattle.index_files.specs.declared.local.Local.{Local}
 use Rattle.plan_types.specs.declared.index.Places.{Places}
 use Rattle.index_files.specs.declared.unit.Unit.{Unit}
-use Rattle.index_files.proofs.Turns.{one-outcome}
+use Rattle.index_files.proofs.StepsInTurn.{one-outcome}
 
 -- a file has at most one source or fault
 abbrev pub HasOneSource : Type 0

@@ -9,7 +9,7 @@ use Rattle.std.proofs.lemmas.Bool.{and_parts}
 use Rattle.std.proofs.lemmas.Bool.Decides.{nat_tests}
 use Rattle.std.proofs.lemmas.List.{append_assoc, append_cancel_left}
 use Rattle.version_range.specs.Version.{IsVersion, version_text}
-use Rattle.version_range.proofs.Numbers.{decimal_digits}
+use Rattle.version_range.proofs.VersionNumbers.{decimal_digits}
 use Rattle.outside_folder.specs.Files.{Bytes}
 use Rattle.index_files.specs.Places.{release_path}
 use Rattle.plan_types.specs.declared.index.Places.{Places}

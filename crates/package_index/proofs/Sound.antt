@@ -9,7 +9,7 @@ use Rattle.plan_types.specs.declared.index.Entry.{Entry}
 use Rattle.plan_types.specs.declared.index.Index.{Index}
 use Rattle.plan_types.specs.declared.index.Package.{Package}
 use Rattle.qualified_goals.specs.Names.{AreInGoalOrder, package_cmp}
-use Rattle.qualified_goals.proofs.Numbers.{package_cmp_total}
+use Rattle.qualified_goals.proofs.NameNumbers.{package_cmp_total}
 use Rattle.flatten.specs.Sound.{IsPackage, IsSound, has_package}
 use Rattle.outside_folder.specs.Files.{Bytes}
 use Rattle.index_files.specs.Closure.{Ground, asked_locally, mentioned, roots}

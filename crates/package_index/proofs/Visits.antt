@@ -3,7 +3,7 @@ use Rattle.std.proofs.Common.{◌≡◌, Bool, true, false, List, [], ◌∷◌,
 use Rattle.std.specs.List.{AllByRecursion}
 use Rattle.plan_types.specs.declared.condition.Env.{Env}
 use Rattle.plan_types.specs.declared.version.Version.{Version}
-use Rattle.version_range.proofs.Numbers.{one_version, version_from}
+use Rattle.version_range.proofs.VersionNumbers.{one_version, version_from}
 use Rattle.outside_folder.specs.Files.{Bytes, Files}
 use Rattle.outside_folder.specs.declared.calls.Content.{Content}
 use Rattle.outside_folder.specs.declared.calls.Content.TheVariants.{Missing, TooLarge, Bytes as Holds}

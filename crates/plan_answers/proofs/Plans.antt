@@ -2,22 +2,22 @@
 use Rattle.std.proofs.Common.{Bool, List, Option, map, refl, is_lt}
 use Rattle.plan_nodes.specs.declared.node.PlanNode.{PlanNode}
 use Rattle.plan_nodes.specs.Once.{each_line_once}
-use Rattle.package_declarations.proofs.StableSort.{put_all}
-use Rattle.file_answers.proofs.Sorting.{all_move, all_sorted}
+use Rattle.package_declarations.proofs.StableSorts.{put_all}
+use Rattle.file_answers.proofs.SortedInsertion.{all_move, all_sorted}
 use Rattle.plan_components.specs.declared.reached.Reached.{Reached}
 use Rattle.plan_components.specs.Chosen.{Selection}
 use Rattle.plan_components.specs.Plan.{AreReached}
-use Rattle.order_answers.proofs.Orders.{some_order}
+use Rattle.order_answers.proofs.SomeOrder.{some_order}
 use Rattle.node_lines.specs.Along.{lines_along}
 use Rattle.node_lines.specs.Lines.{AreLines}
 use Rattle.node_lines.specs.Numbers.{graph_of as places_of}
-use Rattle.node_lines.proofs.Making.{are_lines}
+use Rattle.node_lines.proofs.LineMaking.{are_lines}
 use Rattle.elaborate.specs.declared.told.Told.{Told}
 use Rattle.elaborate.specs.Plan.{IsPlan, graph_of, line_at}
 use Rattle.elaborate.specs.Telling.{told_in}
 use Rattle.elaborate.specs.Told.{told_cmp}
-use Rattle.elaborate.proofs.Order.{told-order}
-use Rattle.elaborate.proofs.Planned.{ranked}
+use Rattle.elaborate.proofs.NodeOrder.{told-order}
+use Rattle.elaborate.proofs.PlannedNodes.{ranked}
 use Rattle.plan_answers.proofs.Reached.{some_reached}
 
 -- the order in which nodes with lines are sorted

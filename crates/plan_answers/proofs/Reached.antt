@@ -18,9 +18,9 @@ use Rattle.plan_components.specs.Needs.{needed_nodes, needs_of}
 use Rattle.plan_components.specs.Plan.{AreReached, IsInPlan}
 use Rattle.plan_components.specs.Steps.{AppendsNew, node_at}
 use Rattle.plan_components.specs.Wanted.{first_nodes}
-use Rattle.plan_components.proofs.Nodes.{alike, differ, exact}
-use Rattle.plan_components.proofs.Putting.{puts_both, puts_key, puts_none}
-use Rattle.plan_components.proofs.Walk.{Keeps, all_needs, each_reached, keeps_first, keeps_next}
+use Rattle.plan_components.proofs.SameNodes.{alike, differ, exact}
+use Rattle.plan_components.proofs.AddedNodes.{puts_both, puts_key, puts_none}
+use Rattle.plan_components.proofs.NodeWalk.{Keeps, all_needs, each_reached, keeps_first, keeps_next}
 use Rattle.plan_answers.proofs.Nodes.{all_nodes, is_among}
 
 -- ---- nodes, each once

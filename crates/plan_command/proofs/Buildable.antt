@@ -6,7 +6,7 @@ use Rattle.choice_problem.specs.declared.outcome.Outcome.TheVariants as outcome
 use Rattle.command_line.specs.declared.reading.Command.{Command}
 use Rattle.outside_folder.specs.Files.{Bytes}
 use Rattle.plan_components.specs.Chosen.{selection_from}
-use Rattle.elaborate.proofs.Needed.{told_before}
+use Rattle.elaborate.proofs.NeedsBefore.{told_before}
 use Rattle.plan_search.specs.Finding.{IsFindingOf}
 use Rattle.plan_search.specs.declared.search.Finding.{Finding}
 use Rattle.plan_search.specs.declared.search.Picking.{Picking}

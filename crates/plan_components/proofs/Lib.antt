@@ -1,8 +1,8 @@
 pub mod Apart
 pub mod Conditions
-pub mod Nodes
-pub mod Putting
+pub mod SameNodes
+pub mod AddedNodes
 pub mod Turns
 pub mod Values
-pub mod Walk
+pub mod NodeWalk
 pub mod Naming

@@ -14,7 +14,7 @@ use Rattle.plan_jobs.specs.Marks.{NoneMarked}
 use Rattle.plan_jobs.specs.Events.{is_installed, is_running, node_at, state_after, state_by, states_after, lists_id}
 use Rattle.plan_jobs.specs.Board.{AreAfter, AreBegun, AreHeld, AreReady, HasFailed, Keeps, is_begun, state_at}
 use Rattle.plan_jobs.specs.Building.{AreOf, first_state}
-use Rattle.plan_jobs.proofs.Told.{history_begins, state_in, states_count}
+use Rattle.plan_jobs.proofs.NextStates.{history_begins, state_in, states_count}
 use Rattle.plan_jobs.proofs.Replies.{needs_within}
 
 or_last : (b : Bool) → b || false ≡ b

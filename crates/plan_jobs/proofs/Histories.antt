@@ -1,4 +1,4 @@
--- The laws of histories.
+-- Shared: the laws of histories.
 use Rattle.std.proofs.Common.{◌≡◌, ◌<◌, ◌≤◌, ◌+◌, ◌||◌, ◌⊎◌, inl, inr, ⊎_elim, ℕ, zero, suc, Bool, true, false, cond, List, [], ◌∷◌, ◌++◌, Result, Ok, Err, length, refl, sym, subst, ap, ◌∙◌, arith, append_assoc}
 use Rattle.std.specs.Prelude.{⊤, count_by}
 use Rattle.std.specs.List.{list_any}
@@ -17,7 +17,7 @@ use Rattle.plan_jobs.specs.Laws.{HasEnded, IsAtRest, KeepsHeld, StartsAfterNeeds
 use Rattle.plan_jobs.proofs.Counts.{other_place, same_place}
 use Rattle.plan_jobs.proofs.Changes.{runs_more}
 use Rattle.plan_jobs.proofs.Begin.{first_states, none_run, wants_none}
-use Rattle.plan_jobs.proofs.Told.{all_stay, completes_now, fails_now, one_changes, starts_now, state_in, states_count, stays_so}
+use Rattle.plan_jobs.proofs.NextStates.{all_stay, completes_now, fails_now, one_changes, starts_now, state_in, states_count, stays_so}
 
 true_or : (b : Bool) → (b ≡ true) ⊎ (b ≡ true → ⊥)
 true_or true = inl refl

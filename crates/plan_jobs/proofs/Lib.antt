@@ -2,7 +2,7 @@ pub mod Tree
 pub mod Spread
 pub mod Counts
 pub mod Changes
-pub mod Told
+pub mod NextStates
 pub mod Replies
 pub mod Reading
 pub mod Begin

@@ -11,7 +11,7 @@ use Rattle.plan_jobs.specs.Events.{Event, IsHeld, IsLeastReady, IsReady, NeedsNo
 use Rattle.plan_jobs.specs.Board.{AreAfter, IsUser, Keeps, is_completed, state_at}
 use Rattle.plan_jobs.proofs.Counts.{some_open}
 use Rattle.plan_jobs.proofs.Changes.{held_by_way, ready_met}
-use Rattle.plan_jobs.proofs.Told.{after_count, after_running, after_state}
+use Rattle.plan_jobs.proofs.NextStates.{after_count, after_running, after_state}
 
 -- only nodes have needs
 pub needs_within : (nodes : List PlanNode) (place need : ℕ) → NeedsNode nodes place need → place < length nodes

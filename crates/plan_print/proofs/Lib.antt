@@ -1,1 +1,1 @@
-pub mod Zips
+pub mod ListPairs

@@ -1,5 +1,5 @@
 pub mod Orders
 pub mod Rebuilt
-pub mod Tables
-pub mod Groups
-pub mod Outcomes
+pub mod ConditionTables
+pub mod GroupTests
+pub mod OutcomeLemmas

@@ -1,3 +1,3 @@
 pub mod Unique
-pub mod Orders
+pub mod TotalOrders
 pub mod Made

@@ -1,3 +1,3 @@
 pub mod Reading
 pub mod Texts
-pub mod Locating
+pub mod LocatedPackages

@@ -2,6 +2,6 @@ pub mod Values
 pub mod Flagged
 pub mod Walk
 pub mod Taken
-pub mod Files
+pub mod ProjectFiles
 pub mod One
-pub mod Extra
+pub mod ExtraPackages

@@ -8,13 +8,13 @@ use Rattle.plan_types.specs.declared.project.Project.{Project}
 use Rattle.plan_types.specs.declared.range.Spec.TheVariants.{V3_0}
 use Rattle.plan_types.specs.declared.refusal.Cause.{Cause}
 use Rattle.plan_types.specs.declared.refusal.Refusal.{Refusal}
-use Rattle.cabal_lexer.proofs.Exact as lexer
+use Rattle.cabal_lexer.proofs.OneTree as lexer
 use Rattle.condition_text.specs.Grammar.{Stands, FirstFault}
-use Rattle.condition_text.proofs.Whole as conditions
+use Rattle.condition_text.proofs.WholeConditions as conditions
 use Rattle.constraint_text.specs.Constraints.{ConstraintEntry, Constraints, ConstraintsFault}
 use Rattle.constraint_text.specs.Named.{NamedEntry, NamedFault, NamedRanges}
 use Rattle.constraint_text.specs.Relaxes.{RelaxEntry, RelaxFault, Relaxes}
-use Rattle.entry_text.proofs.Only as only
+use Rattle.entry_text.proofs.OneReading as only
 use Rattle.constraint_text.proofs.OneConstraint.{constraint_settled}
 use Rattle.constraint_text.proofs.OneNamed.{named_settled}
 use Rattle.constraint_text.proofs.OneRelax.{given_reading, no_fault, relax_settled}

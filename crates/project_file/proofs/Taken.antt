@@ -3,7 +3,7 @@ use Rattle.std.proofs.Common.{◌≡◌, ℕ, Bool, false, List, [], ◌∷◌, 
 use Rattle.std.specs.Prelude.{Option, None, Some, unwrap_or}
 use Rattle.std.specs.Option.{option_or}
 use Rattle.text_grammar.specs.Last.{last_given}
-use Rattle.text_grammar.proofs.LastSaid.{last_push as said_push}
+use Rattle.text_grammar.proofs.LastValue.{last_push as said_push}
 use Rattle.std.proofs.lemmas.Grind.{flat_map-append}
 use Rattle.std.proofs.lemmas.List.{append-nil}
 use Rattle.plan_types.specs.declared.limit.Limit.TheVariants.{At}

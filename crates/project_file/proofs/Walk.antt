@@ -16,7 +16,7 @@ use Rattle.project_file.specs.declared.part.ProjectSaid.{ProjectSaid}
 use Rattle.project_file.specs.declared.part.ProjectSaid.TheVariants as said
 use Rattle.project_file.specs.declared.words.ProjectBranchWord.{ProjectBranchWord}
 use Rattle.project_file.specs.declared.words.SectionWord.{SectionWord}
-use Rattle.cabal_lexer.proofs.Trees.{added, field_in_front, section_in_front, tree_from}
+use Rattle.cabal_lexer.proofs.ElementTrees.{added, field_in_front, section_in_front, tree_from}
 use Rattle.project_file.specs.declared.words.SectionWord.TheVariants as sections
 
 module _ (env : Env) where

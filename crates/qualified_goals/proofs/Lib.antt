@@ -1,3 +1,3 @@
-pub mod Order
-pub mod Numbers
+pub mod GoalOrder
+pub mod NameNumbers
 pub mod Ordered

@@ -13,14 +13,14 @@ use Rattle.outside_folder.specs.Files.{Bytes, Files}
 use Rattle.outside_folder.specs.declared.calls.Content.{Content}
 use Rattle.outside_folder.specs.declared.calls.Content.TheVariants.{Missing, TooLarge, Bytes as Holds}
 use Rattle.version_range.specs.Version.{IsNumber, IsVersionOf, is_version, version_text}
-use Rattle.version_range.proofs.Numbers.{one_version, version_from}
-use Rattle.text_answers.proofs.Decided.{front_decided, same_or_other}
-use Rattle.text_answers.proofs.Readings.{version_or_none}
+use Rattle.version_range.proofs.VersionNumbers.{one_version, version_from}
+use Rattle.text_answers.proofs.DecidedReadings.{front_decided, same_or_other}
+use Rattle.text_answers.proofs.LoopReadings.{version_or_none}
 use Rattle.replay_text.specs.Reading.{AreEvents, AreRead, IsGood, IsLineOf, NoEvent, empty, here, later, none, one}
 use Rattle.replay_text.specs.declared.event.JobEvent.{JobEvent}
 use Rattle.replay_text.specs.declared.event.JobEvent.TheVariants.{Start, Completed, Failed}
 use Rattle.event_file.specs.Events.{AreEventsAt, AreEventsIn, events_or_refusal}
-use Rattle.replay_answers.proofs.Decided.{Dec}
+use Rattle.replay_answers.proofs.Decidability.{Dec}
 
 -- ---- the number of a node
 

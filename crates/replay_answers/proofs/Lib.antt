@@ -1,4 +1,4 @@
-pub mod Decided
+pub mod Decidability
 pub mod Events
 pub mod Replies
 pub mod Standings

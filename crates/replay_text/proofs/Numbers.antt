@@ -7,7 +7,7 @@ use Rattle.std.specs.Str.{all_ascii_digits}
 use Rattle.std.proofs.lemmas.Bool.{and_parts}
 use Rattle.std.proofs.lemmas.Fmt.{decimal_injective}
 use Rattle.version_range.specs.Version.{IsNumber, begins_with_digit}
-use Rattle.version_range.proofs.Numbers.{decimal_digits}
+use Rattle.version_range.proofs.VersionNumbers.{decimal_digits}
 
 append-nil : {X : Type 0} (xs : List X) → xs ++ [] ≡ xs
 append-nil [] = refl

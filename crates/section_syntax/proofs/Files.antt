@@ -15,7 +15,7 @@ use Rattle.section_syntax.specs.declared.part.HeadField.{HeadField}
 use Rattle.section_syntax.specs.declared.part.SectionPart.{SectionPart}
 use Rattle.section_syntax.specs.declared.part.Section.{Section}
 use Rattle.section_syntax.specs.declared.part.SectionKind.{SectionKind}
-use Rattle.cabal_lexer.proofs.Trees.{field_in_front, section_in_front, tree_from}
+use Rattle.cabal_lexer.proofs.ElementTrees.{field_in_front, section_in_front, tree_from}
 
 module _ (spec : Spec) where
   pub head_goes : {item : Element} (line : ℕ) (name : List ℕ) (values : List (List ℕ)) (found : Option Head) (old : List HeadField) {new : List HeadField} (kept : List Section) →

@@ -1,5 +1,5 @@
 pub mod Trees
 pub mod Steps
 pub mod Files
-pub mod One
-pub mod Chained
+pub mod OneFile
+pub mod ChainedParts

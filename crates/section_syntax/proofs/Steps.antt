@@ -24,7 +24,7 @@ use Rattle.section_syntax.specs.declared.words.FieldWord.{FieldWord}
 use Rattle.section_syntax.specs.declared.words.InnerWord.{InnerWord}
 use Rattle.section_syntax.specs.declared.words.InnerWord.TheVariants as inner
 use Rattle.section_syntax.proofs.Trees.{field_step, section_step}
-use Rattle.cabal_lexer.proofs.Trees.{added, field_in_front, section_in_front, tree_from}
+use Rattle.cabal_lexer.proofs.ElementTrees.{added, field_in_front, section_in_front, tree_from}
 
 pub begins-under : (spec : Spec) (branches : List Branch) → may_import spec branches ≡ may_import spec (map condition branches)
 begins-under spec [] = refl

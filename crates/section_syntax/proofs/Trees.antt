@@ -12,7 +12,7 @@ use Rattle.section_syntax.specs.Words.{field_word, inner_word}
 use Rattle.section_syntax.specs.declared.part.SectionPart.{SectionPart}
 use Rattle.section_syntax.specs.declared.part.Said.{Said}
 use Rattle.section_syntax.specs.declared.part.SectionKind.{SectionKind}
-use Rattle.cabal_lexer.proofs.Trees.{field_in_front, section_in_front}
+use Rattle.cabal_lexer.proofs.ElementTrees.{field_in_front, section_in_front}
 
 module _ (spec : Spec) (kind : SectionKind) where
   pub field_step : (line : ℕ) (name : List ℕ) (values : List (List ℕ)) (front behind : Tree) (branches : List Cond) (chain : Option Cond)

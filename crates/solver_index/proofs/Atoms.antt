@@ -9,10 +9,10 @@ use Rattle.plan_types.specs.declared.version.Version.{Version}
 use Rattle.plan_types.specs.Members.{members, members_step, major_end}
 use Rattle.version_range.specs.Cuts.{HasNumbers, is_below, prefix_end}
 use Rattle.version_range.specs.Version.{has_versions, is_version, versions_step}
-use Rattle.version_range.proofs.Ends.{below_down}
+use Rattle.version_range.proofs.RisingEnds.{below_down}
 use Rattle.version_range.proofs.Intervals.{above_is, at_least_is, at_most_is, below_is, equal_is, major_is, prefix_is, version_some}
-use Rattle.version_range.proofs.Numbers.{version_from}
-use Rattle.version_range.proofs.Relaxing.{least}
+use Rattle.version_range.proofs.VersionNumbers.{version_from}
+use Rattle.version_range.proofs.RelaxedCuts.{least}
 use Rattle.solver_index.specs.AllowedVersions.{least_version, next_version}
 
 -- no member lies below the start, and each version from the start up to a member is one

@@ -6,7 +6,7 @@ use Rattle.std.proofs.lemmas.List.Elements.{Contains-get_or}
 use Rattle.std.proofs.ByRecursion.{All-get_or}
 use Rattle.plan_types.specs.declared.index.Entry.{Entry}
 use Rattle.version_range.specs.Cuts.{HasNumbers, is_below}
-use Rattle.version_range.proofs.Ends.{not_itself}
+use Rattle.version_range.proofs.RisingEnds.{not_itself}
 use Rattle.solver_index.specs.Blocks.{AreInBlocks, IsPrefixClosed, IsBlock, MayFollow, version_at}
 use Rattle.solver_index.specs.Places.{entry_at, no_entry}
 use Rattle.plan_types.specs.Packages.{is_installed}

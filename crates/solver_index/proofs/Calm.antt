@@ -11,7 +11,7 @@ use Rattle.plan_types.specs.declared.version.Version.{Version}
 use Rattle.plan_types.specs.Members.{members}
 use Rattle.version_range.specs.declared.merge.Connective.{Connective}
 use Rattle.version_range.specs.Cuts.{HasNumbers, IsRelaxed, IsSplit, Relaxes, SomeAbove, SomeBelow, is_below, join}
-use Rattle.version_range.proofs.Ends.{below_down, below_up, not_below_back, not_itself}
+use Rattle.version_range.proofs.RisingEnds.{below_down, below_up, not_below_back, not_itself}
 use Rattle.solver_index.specs.Before.{before}
 use Rattle.solver_index.specs.Blocks.{IsBlock, version_at}
 use Rattle.solver_index.specs.TurningPlaces.{AreTurns, AreTurnsBut, IsConstantWhere, IsConstant, HasNoTurn, IsOperator}

@@ -8,9 +8,9 @@ use Rattle.plan_types.specs.declared.version.Version.{Version}
 use Rattle.plan_types.specs.Members.{members, members_step}
 use Rattle.version_range.specs.Cuts.{HasNumbers, is_below}
 use Rattle.version_range.specs.Version.{has_versions}
-use Rattle.version_range.proofs.Ends.{below_down}
+use Rattle.version_range.proofs.RisingEnds.{below_down}
 use Rattle.version_range.proofs.Intervals.{up_to}
-use Rattle.version_range.proofs.Relaxing.{least}
+use Rattle.version_range.proofs.RelaxedCuts.{least}
 use Rattle.solver_index.specs.Before.{before, before_step, is_operator, operator_step}
 use Rattle.solver_index.specs.AllowedVersions.{least_version, next_version}
 use Rattle.solver_index.specs.TurningPlaces.{IsOperator}

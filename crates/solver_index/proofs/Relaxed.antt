@@ -11,7 +11,7 @@ use Rattle.plan_types.specs.declared.version.Version.{Version}
 use Rattle.plan_types.specs.Members.{members, members_step}
 use Rattle.version_range.specs.Cuts.{HasNumbers, IsRelaxed, Relaxes, SomeAbove, SomeBelow, is_below}
 use Rattle.version_range.specs.Version.{has_versions, versions_step}
-use Rattle.version_range.proofs.Ends.{below_down, not_below_back, not_below_through, not_itself}
+use Rattle.version_range.proofs.RisingEnds.{below_down, not_below_back, not_below_through, not_itself}
 use Rattle.solver_index.specs.AllowedVersions.{AreRelaxedRanges, allowed_versions, least_version, next_version, relaxed_range, starts, starts_above, starts_below, starts_step}
 use Rattle.solver_index.proofs.Atoms.{IsInterval, above-interval, any-interval, at_least-interval, at_most-interval, below-interval, equal-interval, major-interval, prefix-interval}
 use Rattle.common_laws.specs.Lists.{contains-head, contains-none, contains-cases, any-at, any-from}

@@ -12,7 +12,7 @@ use Rattle.package_declarations.specs.Components.{component_in}
 use Rattle.package_declarations.specs.Declarations.{is_library as declares_library, is_own, own_name}
 use Rattle.stanza_imports.specs.Imports.{with_imports_replaced}
 use Rattle.stanza_imports.specs.KnownStanzas.{Stanzas, all_replaced, stanzas_behind, sections_from}
-use Rattle.stanza_imports.proofs.InOrder.{from-known}
+use Rattle.stanza_imports.proofs.ImportOrder.{from-known}
 use Rattle.sound_description.proofs.Faultless.{IsFaultless}
 use Rattle.common_laws.specs.Passing.{all-append}
 use Rattle.sound_description.proofs.Names.{apart-back}

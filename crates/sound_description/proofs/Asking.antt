@@ -10,7 +10,7 @@ use Rattle.plan_types.specs.declared.range.Range.{Range}
 use Rattle.plan_types.specs.declared.range.Spec.{Spec}
 use Rattle.text_grammar.specs.Parts.{Led, led, Behind, behind, Chain, one, more, Term, Terms, Worded, worded}
 use Rattle.version_range.specs.Version.{has_versions}
-use Rattle.version_range.proofs.Forms.{stands_valid}
+use Rattle.version_range.proofs.VersionForms.{stands_valid}
 use Rattle.condition_text.specs.Grammar.{Versions, versions, Compiled, compiled, Atom, always, never, flag, os, arch, compiler, Factor, atom, negated, inner_factor, InnerFactor, Reads, reads, Stands}
 use Rattle.section_syntax.specs.declared.part.Section.{Section}
 use Rattle.package_declarations.specs.Declarations.{declares, has_flags, is_flag}

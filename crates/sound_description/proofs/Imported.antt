@@ -12,7 +12,7 @@ use Rattle.section_syntax.specs.declared.part.SectionKind.{SectionKind}
 use Rattle.section_syntax.specs.declared.part.SectionKind.TheVariants as kinds
 use Rattle.stanza_imports.specs.Imports.{under, with_imports_replaced}
 use Rattle.stanza_imports.specs.KnownStanzas.{Stanzas, parts_of, replaced, all_replaced, stanzas_behind, sections_from}
-use Rattle.stanza_imports.proofs.InOrder.{from-known}
+use Rattle.stanza_imports.proofs.ImportOrder.{from-known}
 use Rattle.common_laws.specs.Passing.{all-append, all-map, all-flat, all-any}
 use Rattle.plan_types.specs.Bytes.{same_text}
 use Rattle.stanza_imports.specs.Parts.{deps_said}

@@ -19,7 +19,7 @@ use Rattle.description.proofs.RepeatedNames.{repeated_from}
 use Rattle.package_declarations.specs.Flags.{flag_of, declared_flags}
 use Rattle.stanza_imports.specs.Imports.{with_imports_replaced}
 use Rattle.stanza_imports.specs.KnownStanzas.{Stanzas, all_replaced, stanzas_behind, sections_from}
-use Rattle.stanza_imports.proofs.InOrder.{from-known}
+use Rattle.stanza_imports.proofs.ImportOrder.{from-known}
 use Rattle.stanza_imports.specs.Names.{has, with_name}
 use Rattle.package_declarations.specs.Declarations.{is_flag}
 use Rattle.description.specs.declared.faults.Class.{Class}

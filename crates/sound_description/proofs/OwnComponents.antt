@@ -19,7 +19,7 @@ use Rattle.package_declarations.specs.Components.{component_in}
 use Rattle.package_declarations.specs.Declarations.{declares, is_bare, is_known, is_library, is_executable, is_own, known_by, meaning, meaning_by, meant, meant_as, own_name}
 use Rattle.stanza_imports.specs.Imports.{with_imports_replaced}
 use Rattle.stanza_imports.specs.KnownStanzas.{Stanzas, all_replaced, stanzas_behind, sections_from}
-use Rattle.stanza_imports.proofs.InOrder.{from-known}
+use Rattle.stanza_imports.proofs.ImportOrder.{from-known}
 use Rattle.package_declarations.specs.declared.declarations.Meaning.{Meaning}
 use Rattle.package_declarations.specs.declared.declarations.Meaning.TheVariants.{Other, Own, OwnLibrary}
 use Rattle.flatten.specs.OwnComponents.{finds_all, is_exe, is_lib, name_of}

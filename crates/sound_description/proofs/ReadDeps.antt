@@ -14,7 +14,7 @@ use Rattle.plan_types.specs.declared.range.Spec.{Spec}
 use Rattle.plan_types.specs.Format.{is_old}
 use Rattle.plan_types.specs.declared.refusal.Cause.{Cause}
 use Rattle.version_range.specs.Version.{has_versions}
-use Rattle.version_range.proofs.Forms.{stands_valid}
+use Rattle.version_range.proofs.VersionForms.{stands_valid}
 use Rattle.entry_text.specs.Entries.{Each, none, more}
 use Rattle.depend_text.specs.Depends.{LibraryEntry, ToolEntry, Depends, DependsFault, Tools, ToolsFault}
 use Rattle.section_syntax.specs.Items.{Items, FieldSays, SectionSays, import_fits, placed, visible}

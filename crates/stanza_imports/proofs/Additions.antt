@@ -22,7 +22,7 @@ use Rattle.stanza_imports.specs.declared.stanzas.Stanzas as tables
 use Rattle.stanza_imports.proofs.StanzaLookups.{has_already, found_already, found_too, has_too}
 use Rattle.stanza_imports.proofs.BodyMeanings.{steps_kept, steps_below}
 use Rattle.stanza_imports.proofs.BodyTurns.{in_turn-append}
-use Rattle.stanza_imports.proofs.InOrder.{from-known}
+use Rattle.stanza_imports.proofs.ImportOrder.{from-known}
 use Rattle.std.proofs.lemmas.Bool.{and_from, and_parts}
 use Rattle.stanza_imports.specs.Bodies.{body_parts, table, summary, built_component, shown_in, AreBodiesOf}
 

@@ -1,6 +1,6 @@
 pub mod Additions
 pub mod BadVisibilities
-pub mod InOrder
+pub mod ImportOrder
 pub mod FirstLines
 pub mod StanzaLookups
 pub mod BodyMeanings
@@ -9,4 +9,4 @@ pub mod PushedParts
 pub mod BodyTurns
 pub mod WalkSteps
 pub mod Weights
-pub mod Chained
+pub mod ChainedImports

@@ -1,4 +1,4 @@
--- Lists of names, compared by their views.
+-- Shared: lists of names, compared by their views.
 use Rattle.std.proofs.Common.{◌≡◌, ℕ, suc, ◌+◌, ◌<◌, ◌&&◌, get_or, drop, drop-cons, add-one, not, length, cond, Bool, true, false, ◌||◌, if◌then◌else◌, List, [], ◌∷◌, ◌++◌, map, sym, ap, ◌∙◌, refl}
 use Rattle.std.specs.Prelude.{Some, None, nat_lt, position}
 use Rattle.std.specs.List.{list_all, list_any, position_or_len}

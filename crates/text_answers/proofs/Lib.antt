@@ -1,6 +1,6 @@
-pub mod Decided
-pub mod Readings
-pub mod Entries
-pub mod Depends
-pub mod Constraints
-pub mod Relaxes
+pub mod DecidedReadings
+pub mod LoopReadings
+pub mod EntryAnswers
+pub mod DependencyAnswers
+pub mod ConstraintAnswers
+pub mod RelaxAnswers

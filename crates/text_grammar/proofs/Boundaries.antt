@@ -1,4 +1,4 @@
--- Character boundaries: after a prefix of ASCII bytes.
+-- Shared: character boundaries: after a prefix of ASCII bytes.
 use Rattle.std.proofs.Common.{◌≡◌, ℕ, zero, suc, ◌<◌, Bool, true, List, get_or, refl, subst, arith}
 use Rattle.std.specs.List.{prefix_len}
 use Rattle.std.specs.Str.{IsUtf8, IsCharBoundary}

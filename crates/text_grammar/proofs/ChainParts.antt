@@ -1,4 +1,4 @@
--- A reader of chains is correct for the language of chains.
+-- Shared: a reader of chains is correct for the language of chains.
 use Rattle.std.proofs.Common.{◌≡◌, ◌≢◌, ℕ, zero, suc, ◌+◌, ◌<◌, true, List, [], ◌∷◌, ◌++◌, length, Option, Some, None, Result, Ok, Err, refl, sym, ap, ◌∙◌, subst, append_assoc, append-nil, length-append, arith}
 use Rattle.plan_types.specs.declared.refusal.Cause.{Cause}
 use Rattle.plan_types.specs.declared.refusal.TextFault.TheVariants.{Bad}
@@ -6,7 +6,7 @@ use Rattle.text_grammar.specs.Reading.{◌>>=◌, chain, chained}
 use Rattle.text_grammar.specs.Parts.{Chain, one, more}
 use Rattle.text_grammar.proofs.TextKind.{Kind}
 use Rattle.text_grammar.proofs.Chains.{Goes, begun, goes_on, is_done, ends, step, stop, broken}
-use Rattle.text_grammar.proofs.Fronts.{Reader, errs, ends_some, Read, Fault, fault_up}
+use Rattle.text_grammar.proofs.FrontReaders.{Reader, errs, ends_some, Read, Fault, fault_up}
 
 -- a reader of an optional next part
 abbrev pub Option-Reader : Type 0 → Type 0

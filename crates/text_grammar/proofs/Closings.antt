@@ -1,13 +1,13 @@
--- A part, blanks and a closing byte, and what may follow a part and blanks.
+-- Shared: a part, blanks and a closing byte, and what may follow a part and blanks.
 use Rattle.std.proofs.Common.{◌≡◌, ◌⊎◌, inl, inr, ℕ, Bool, true, false, List, [], ◌∷◌, ◌++◌, Result, Ok, Err, refl, sym, ap, ◌∙◌, subst, append_assoc, append-nil}
 use Rattle.std.proofs.lemmas.Bool.{false≢true}
 use Rattle.plan_types.specs.declared.refusal.Cause.{Cause}
 use Rattle.plan_types.specs.Bytes.{is_blank, Blanks, begins_with}
 use Rattle.text_grammar.specs.Reading.{◌>>=◌, skip_blanks, byte_due}
 use Rattle.text_grammar.proofs.TextKind.{Digits, Kind, miss, starts, ends_with}
-use Rattle.text_grammar.proofs.Fronts.{Reader, head_of, errs, Apart, apart_same_head, ends_behind, Read, Like, Fault, due_fault, fault_up}
+use Rattle.text_grammar.proofs.FrontReaders.{Reader, head_of, errs, Apart, apart_same_head, ends_behind, Read, Like, Fault, due_fault, fault_up}
 use Rattle.text_grammar.proofs.ChainParts.{ok_parts, errs_then}
-use Rattle.text_grammar.proofs.Spaces.{starts_like, begins_like, Begun, begun, due_here, due_gone, blanks_none, ends_blanks, cut, skip_over}
+use Rattle.text_grammar.proofs.LeadingBlanks.{starts_like, begins_like, Begun, begun, due_here, due_gone, blanks_none, ends_blanks, cut, skip_over}
 
 -- ---- after a part and blanks
 

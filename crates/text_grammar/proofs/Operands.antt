@@ -1,14 +1,14 @@
--- Reading operands joined by a mark of two bytes.
+-- Shared: reading operands joined by a mark of two bytes.
 use Rattle.std.proofs.Common.{◌≡◌, ◌≢◌, inl, ℕ, true, false, List, [], ◌∷◌, ◌++◌, Option, Some, None, Result, Ok, Err, refl, sym, ap, ◌∙◌, subst, append_assoc, append-nil}
 use Rattle.plan_types.specs.declared.refusal.Cause.{Cause}
 use Rattle.plan_types.specs.Bytes.{is_blank, Blanks, begins_with}
 use Rattle.text_grammar.specs.Reading.{skip_blanks, next_at}
 use Rattle.text_grammar.specs.Parts.{Behind, behind, Chain, one, more}
 use Rattle.text_grammar.proofs.TextKind.{Kind, miss, ends_with}
-use Rattle.text_grammar.proofs.Fronts.{Reader, some_append, errs, ends_behind, ends_kept, Read, Fault, due_fault, fault_up, fault_up_like}
-use Rattle.text_grammar.proofs.Spaces.{no_digits, begins_like}
+use Rattle.text_grammar.proofs.FrontReaders.{Reader, some_append, errs, ends_behind, ends_kept, Read, Fault, due_fault, fault_up, fault_up_like}
+use Rattle.text_grammar.proofs.LeadingBlanks.{no_digits, begins_like}
 use Rattle.text_grammar.proofs.ChainParts.{Parts, NextFault, all_of, errs_then, as_next, as_next_ok, as_next_none, as_next_err, reads, read_all, fault_all}
-use Rattle.text_grammar.proofs.Marks.{twice, at_mark, at_half, at_none, Mark, no_mark, half, mark, marked}
+use Rattle.text_grammar.proofs.MarkReaders.{twice, at_mark, at_half, at_none, Mark, no_mark, half, mark, marked}
 
 -- the reader P is correct for the language L; E relates a text to the texts that may follow it
 pub record Rules {A : Type 0} (L : List ℕ → A → Type 0) (E : List ℕ → List ℕ → Type 0) (P : Reader A) : Type 0 where

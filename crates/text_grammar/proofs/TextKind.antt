@@ -1,4 +1,4 @@
--- Kinds of texts: their digits, and the causes of their faults.
+-- Shared: kinds of texts: their digits, and the causes of their faults.
 use Rattle.std.proofs.Common.{◌≡◌, ℕ, Bool, true, false, List, [], ◌∷◌, Option}
 use Rattle.std.specs.Prelude.{if◌then◌else◌}
 use Rattle.plan_types.specs.Bytes.{is_blank}

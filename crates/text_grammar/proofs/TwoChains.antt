@@ -1,14 +1,14 @@
--- Reading factors joined by `&&`, and terms joined by `||`.
+-- Shared: reading factors joined by `&&`, and terms joined by `||`.
 use Rattle.std.proofs.Common.{◌≡◌, ◌≢◌, ℕ, false, List, [], ◌∷◌, ◌++◌, codes, Ok, Err, refl, ap}
 use Rattle.plan_types.specs.declared.refusal.Cause.{Cause}
 use Rattle.plan_types.specs.Bytes.{is_blank, Blanks, begins_with}
 use Rattle.text_grammar.specs.Parts.{Led, led, Behind, one, Term, Terms}
 use Rattle.text_grammar.specs.Reading.{skip_blanks, term_at, terms_at}
 use Rattle.text_grammar.proofs.TextKind.{Kind, miss}
-use Rattle.text_grammar.proofs.Fronts.{Reader, Apart, apart_longer, apart_shorter, some_append, Read, Fault}
-use Rattle.text_grammar.proofs.Spaces.{Never, never_empty, blanks_go_on, skip_over}
+use Rattle.text_grammar.proofs.FrontReaders.{Reader, Apart, apart_longer, apart_shorter, some_append, Read, Fault}
+use Rattle.text_grammar.proofs.LeadingBlanks.{Never, never_empty, blanks_go_on, skip_over}
 use Rattle.text_grammar.proofs.ChainParts.{map_chain}
-use Rattle.text_grammar.proofs.Marks.{led_at, led_reads, led_read, led_fault}
+use Rattle.text_grammar.proofs.MarkReaders.{led_at, led_reads, led_read, led_fault}
 use Rattle.text_grammar.proofs.Closings.{Instead, instead, begins_instead, apart_instead}
 use Rattle.text_grammar.proofs.Operands.{Rules, Follow, wider_behind, joined_rules, joined_fault}
 

@@ -1,8 +1,8 @@
 -- A text is at most one record.
 use Rattle.std.proofs.Common.{◌≡◌, inl, inr, ℕ, List, [], ◌∷◌, Option, Result, Err, refl, sym, subst, ap, ◌∙◌}
 use Rattle.plan_types.specs.declared.index.UnitRecord.{UnitRecord}
-use Rattle.cabal_lexer.proofs.Exact as lexer
-use Rattle.version_range.proofs.Exact.{one_version_of}
+use Rattle.cabal_lexer.proofs.OneTree as lexer
+use Rattle.version_range.proofs.OneRange.{one_version_of}
 use Rattle.unit_record.specs.Fields.{Field, FieldSays, Say, TopField, field_word, top_fields}
 use Rattle.unit_record.specs.Record.{IsRecord, outcome, contents}
 use Rattle.unit_record.specs.declared.field.RecordFieldWord.{RecordFieldWord}

@@ -1,4 +1,4 @@
--- Each operator is a half-open interval of versions.
+-- Shared: each operator is a half-open interval of versions.
 use Rattle.std.proofs.Common.{◌≡◌, ℕ, zero, suc, ◌+◌, ◌<◌, Bool, true, false, not, ◌&&◌, List, [], ◌∷◌, ◌++◌, length, refl, sym, ap, ◌∙◌, subst, arith}
 use Rattle.std.specs.Prelude.{nat_eq}
 use Rattle.std.specs.declared.cmp.Ordering.{Ordering}
@@ -12,8 +12,8 @@ use Rattle.plan_types.specs.declared.version.Version.{Version}
 use Rattle.plan_types.specs.Members.{order, major_end}
 use Rattle.version_range.specs.Version.{IsVersion, IsNumber}
 use Rattle.version_range.specs.Cuts.{is_below, HasNumbers, inside, prefix_end}
-use Rattle.version_range.proofs.Ends.{below_through, not_below_through}
-use Rattle.version_range.proofs.Relaxing.{least}
+use Rattle.version_range.proofs.RisingEnds.{below_through, not_below_through}
+use Rattle.version_range.proofs.RelaxedCuts.{least}
 
 pub version_some : (ps : List ℕ) → IsVersion ps → 0 < length ps
 version_some [] h = absurd h

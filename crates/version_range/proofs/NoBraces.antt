@@ -1,4 +1,4 @@
--- In 2.4 no text of a range has a `{`.
+-- Shared: in 2.4 no text of a range has a `{`.
 use Rattle.std.proofs.Common.{◌≡◌, ℕ, zero, suc, Bool, true, false, List, [], ◌∷◌, ◌++◌, codes, refl, sym, ap, ◌∙◌}
 use Rattle.std.specs.Prelude.{◌==◌, not}
 use Rattle.std.specs.Fmt.{decimal}
@@ -17,7 +17,7 @@ use Rattle.version_range.specs.declared.operator.Operator.TheVariants.{Equal, At
 use Rattle.version_range.specs.Version.{IsNumber, IsVersion, is_version, version_text}
 use Rattle.plan_types.specs.Format.{is_old}
 use Rattle.version_range.specs.Grammar.{operator_text, has_sets, Compared, compared, Atom, any, none, version, prefix, set, Factor, atom, enclosed, Term, Terms, Inside, Stands, empty, range}
-use Rattle.version_range.proofs.Numbers.{decimal_digits, version_from}
+use Rattle.version_range.proofs.VersionNumbers.{decimal_digits, version_from}
 
 abbrev pub is_plain : ℕ → Bool
 is_plain b = not (b == 123)

@@ -6,7 +6,7 @@ use Rattle.plan_types.specs.declared.range.Range.TheOpen as layer
 use Rattle.plan_types.specs.declared.range.Range.TheFolds.{fold-roll-Range}
 use Rattle.plan_types.specs.declared.range.Range.TheVariants.{Equal, Prefix, AtLeast, Above, AtMost, Below, Major, rolls-Equal, rolls-Prefix, rolls-AtLeast, rolls-Above, rolls-AtMost, rolls-Below, rolls-Major}
 use Rattle.version_range.specs.Version.{has_versions, versions_step, is_version, IsVersion}
-use Rattle.version_range.proofs.Numbers.{version_from}
+use Rattle.version_range.proofs.VersionNumbers.{version_from}
 
 module _ (r : Range) (x : Version) (h : has_versions r ≡ true) where
   by : (s : Range) → has_versions s ≡ is_version x.parts → r ≡ s → IsVersion x.parts

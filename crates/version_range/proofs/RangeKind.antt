@@ -1,4 +1,4 @@
--- Ranges as a kind of text, with numbers and points.
+-- Shared: ranges as a kind of text, with numbers and points.
 use Rattle.std.proofs.Common.{◌≡◌, ℕ, Bool, true, false, ◌&&◌, ◌||◌, Some, None, refl}
 use Rattle.std.specs.Prelude.{◌==◌, if◌then◌else◌}
 use Rattle.std.specs.Char.{is_ascii_digit}

@@ -20,7 +20,7 @@ use Rattle.text_grammar.specs.Parts.{Led, led, behind, Chain, one, more}
 use Rattle.version_range.specs.Print.{text_in, text_step, as_term, as_whole, range_text, most_open}
 use Rattle.version_range.specs.Print as print
 use Rattle.version_range.proofs.Printed.{text_Both, text_Either}
-use Rattle.version_range.proofs.Numbers.{decimal_digits, digit_front, version_from}
+use Rattle.version_range.proofs.VersionNumbers.{decimal_digits, digit_front, version_from}
 
 -- the language at a place, with at most k more parentheses open
 abbrev At : Spec → ℕ → RangePlace → List ℕ → Range → Type 0

@@ -15,12 +15,12 @@ use Rattle.plan_types.specs.Bytes.{begins_with, is_blank, Blanks}
 use Rattle.text_grammar.specs.Parts.{Led, Behind, behind}
 use Rattle.version_range.specs.Read.{version_at, compared_at, next_member, set_at}
 use Rattle.text_grammar.specs.Reading.{◌>>=◌, skip_blanks, byte_after, chained, valued}
-use Rattle.text_grammar.proofs.Fronts.{Reader, some_append, apart_longer, apart_shorter, errs, Apart, apart_before, apart_within, ends_behind, ends_kept, Read, Like, Fault, fault_up_like}
+use Rattle.text_grammar.proofs.FrontReaders.{Reader, some_append, apart_longer, apart_shorter, errs, Apart, apart_before, apart_within, ends_behind, ends_kept, Read, Like, Fault, fault_up_like}
 use Rattle.text_grammar.proofs.ChainParts.{errs_then, as_next, as_next_ok, as_next_none, as_next_err, Parts, all_of, reads, read_all, NextFault, fault_all}
-use Rattle.text_grammar.proofs.Spaces.{Never, never_starts, never_empty, NotDigits, byte_gone, Begun, begun, blanks_none, blanks_go_on, Cut, cut, skip_over}
-use Rattle.text_grammar.proofs.Steps.{Good, good_led, good_map, good_as}
+use Rattle.text_grammar.proofs.LeadingBlanks.{Never, never_starts, never_empty, NotDigits, byte_gone, Begun, begun, blanks_none, blanks_go_on, Cut, cut, skip_over}
+use Rattle.text_grammar.proofs.ReaderSteps.{Good, good_led, good_map, good_as}
 use Rattle.text_grammar.proofs.Closings.{Instead, instead, begins_instead, apart_instead, Closed, closing, closed_at, closed_reads, closed_read, closed_fault}
-use Rattle.version_range.proofs.Versions.{VersionText, version_read, version_reads, version_fault, version_first}
+use Rattle.version_range.proofs.VersionReaders.{VersionText, version_read, version_reads, version_fault, version_first}
 use Rattle.text_grammar.proofs.TextKind.{starts}
 use Rattle.version_range.proofs.RangeKind.{on_number, blank_off, decimals, range_kind}
 use Rattle.version_range.specs.Read.{missing}

@@ -1,5 +1,5 @@
 use Rattle.std.proofs.Common.{[]}
-use Rattle.build_order.proofs.Unique.{same_rest}
+use Rattle.build_order.proofs.OneOrder.{same_rest}
 use Rattle.build_order.proofs.laws.one_order.Goals as goal
 
 pub returns : goal.returns

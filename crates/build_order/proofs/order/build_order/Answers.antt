@@ -1,7 +1,7 @@
 use Rattle.std.proofs.Common.{ℕ, List, refl, sym, subst, ◌∙◌}
 use Rattle.build_order.specs.Order.{IsLeastReady, IsBuildOrder}
 use Rattle.build_order.specs.Building.{Alone}
-use Rattle.build_order.proofs.Kept.{same, taken_least, taken_keeps, ends}
+use Rattle.build_order.proofs.OrderInvariant.{same, taken_least, taken_keeps, ends}
 use Rattle.build_order.proofs.order.build_order.Goals as goal
 
 pub place-requires-clause-sound : goal.place-requires-clause-sound

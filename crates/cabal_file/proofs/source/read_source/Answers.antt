@@ -1,4 +1,4 @@
-use Rattle.description.proofs.OnlyOutcome.{is-only}
+use Rattle.description.proofs.SingleOutcome.{is-only}
 use Rattle.cabal_file.specs.Source.{IsSource}
 use Rattle.cabal_file.proofs.source.read_source.Goals as goal
 

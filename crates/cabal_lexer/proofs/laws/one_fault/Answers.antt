@@ -1,4 +1,4 @@
-use Rattle.cabal_lexer.proofs.Exact.{one_refusal}
+use Rattle.cabal_lexer.proofs.OneTree.{one_refusal}
 use Rattle.cabal_lexer.proofs.laws.one_fault.Goals as goal
 
 pub returns : goal.returns

@@ -1,4 +1,4 @@
-use Rattle.cabal_lexer.proofs.Exact.{one_tree}
+use Rattle.cabal_lexer.proofs.OneTree.{one_tree}
 use Rattle.cabal_lexer.proofs.laws.one_tree.Goals as goal
 
 pub returns : goal.returns

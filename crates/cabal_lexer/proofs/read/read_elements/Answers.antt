@@ -1,4 +1,4 @@
-use Rattle.cabal_lexer.proofs.Exact.{tree_found, fault_found}
+use Rattle.cabal_lexer.proofs.OneTree.{tree_found, fault_found}
 use Rattle.cabal_lexer.proofs.read.read_elements.Goals as goal
 
 pub returns-clause-exactly_trees : goal.returns-clause-exactly_trees

@@ -1,7 +1,7 @@
 use Rattle.std.proofs.Common.{◌≡◌, ◌∙◌, ap}
 use Rattle.std.proofs.lemmas.Result.{err_from_is_err_and}
 use Rattle.cabal_lexer.specs.Lines.{kept_lines}
-use Rattle.cabal_lexer.proofs.Exact.{At-refused}
+use Rattle.cabal_lexer.proofs.OneTree.{At-refused}
 use Rattle.cabal_lexer.proofs.read.read_tree.Goals as goal
 
 pub returns-in_err-items-clause-fault : goal.returns-in_err-items-clause-fault

@@ -2,7 +2,7 @@ use Rattle.std.proofs.Common.{ap, ◌∙◌}
 use Rattle.std.specs.List.{list_any}
 use Rattle.plan_types.specs.Guarded.{GuardedDep}
 use Rattle.cabal_problem.specs.Variables.{is_tool_of}
-use Rattle.plan_types.proofs.Groups.{some-in-groups}
+use Rattle.plan_types.proofs.GroupTests.{some-in-groups}
 use Rattle.cabal_problem.proofs.variables.component_depends.Goals as goal
 
 pub returns : goal.returns

@@ -4,7 +4,7 @@ use Rattle.plan_types.specs.Conditions.{cond_of, conds_behind}
 use Rattle.conditionals.specs.Count.{numbers_of}
 use Rattle.condition_outlook.specs.Known.{AreKnown}
 use Rattle.condition_outlook.specs.Outlook.{AreOutlooks, IsOutlook}
-use Rattle.condition_outlook.proofs.Places.{outlook-push}
+use Rattle.condition_outlook.proofs.OutlookPlaces.{outlook-push}
 use Rattle.condition_outlook.proofs.Rows.{counted-next, known-push, next-row, within-next}
 use Rattle.condition_outlook.proofs.outlook.outlooks.Goals as goal
 

@@ -1,4 +1,4 @@
-use Rattle.condition_text.proofs.Whole as proof
+use Rattle.condition_text.proofs.WholeConditions as proof
 use Rattle.condition_text.proofs.laws.condition_or_fault.Goals as goal
 
 pub returns : goal.returns

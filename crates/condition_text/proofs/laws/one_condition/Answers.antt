@@ -1,4 +1,4 @@
-use Rattle.condition_text.proofs.Whole as proof
+use Rattle.condition_text.proofs.WholeConditions as proof
 use Rattle.condition_text.proofs.laws.one_condition.Goals as goal
 
 pub returns : goal.returns

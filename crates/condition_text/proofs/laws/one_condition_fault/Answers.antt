@@ -1,4 +1,4 @@
-use Rattle.condition_text.proofs.Whole as proof
+use Rattle.condition_text.proofs.WholeConditions as proof
 use Rattle.condition_text.proofs.laws.one_condition_fault.Goals as goal
 
 pub returns : goal.returns

@@ -1,4 +1,4 @@
-use Rattle.condition_text.proofs.Names.{name_within, name_is_ascii}
+use Rattle.condition_text.proofs.ConditionNames.{name_within, name_is_ascii}
 use Rattle.condition_text.proofs.name.name_at.Goals as goal
 
 pub returns-clause-within : goal.returns-clause-within

@@ -1,6 +1,6 @@
 use Rattle.std.proofs.Common.{ap, sym, ◌∙◌, take, drop}
 use Rattle.condition_text.specs.Forms.{part_of}
-use Rattle.condition_text.proofs.Names.{split_prefix}
+use Rattle.condition_text.proofs.ConditionNames.{split_prefix}
 use Rattle.condition_text.proofs.name.split.Goals as goal
 
 pub returns : goal.returns

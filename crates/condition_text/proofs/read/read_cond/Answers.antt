@@ -1,4 +1,4 @@
-use Rattle.condition_text.proofs.Whole.{cond_found, fault_found, only_condition, only_fault}
+use Rattle.condition_text.proofs.WholeConditions.{cond_found, fault_found, only_condition, only_fault}
 use Rattle.condition_text.proofs.read.read_cond.Goals as goal
 
 pub returns-clause-condition : goal.returns-clause-condition

@@ -1,7 +1,7 @@
 use Rattle.std.proofs.Common.{◌≡◌, arith, sym, ◌∙◌}
 use Rattle.plan_types.specs.declared.condition.Cond.TheVariants.{And, Or}
-use Rattle.conditionals.proofs.Layers.{below_And, below_Or}
-use Rattle.conditionals.proofs.Counting.{numbers_And, numbers_Or, weighed_join, weighed_or}
+use Rattle.conditionals.proofs.ConditionLayers.{below_And, below_Or}
+use Rattle.conditionals.proofs.PathNumbers.{numbers_And, numbers_Or, weighed_join, weighed_or}
 use Rattle.conditionals.proofs.count.+numbers_of.Goals as goal
 
 pub loop-left-preserved-in-And : goal.loop-left-preserved-in-And

@@ -1,4 +1,4 @@
-use Rattle.conditionals.proofs.Joining as proof
+use Rattle.conditionals.proofs.JoinedPaths as proof
 use Rattle.conditionals.proofs.laws.cleaned_before_joined.Goals as goal
 
 pub returns : goal.returns

@@ -1,4 +1,4 @@
-use Rattle.conditionals.proofs.Holding as proof
+use Rattle.conditionals.proofs.HoldingPaths as proof
 use Rattle.conditionals.proofs.laws.no_two_paths_hold.Goals as goal
 
 pub returns : goal.returns

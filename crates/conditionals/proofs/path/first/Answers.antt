@@ -1,7 +1,7 @@
 use Rattle.std.proofs.Common.{◌≡◌, arith, sym, ap, ◌∙◌}
 use Rattle.plan_types.specs.declared.condition.Cond.TheVariants.{Not, And, Or}
 use Rattle.conditionals.specs.declared.path.PathStep.TheVariants as step
-use Rattle.conditionals.proofs.Layers.{below_Not, below_And, below_Or}
+use Rattle.conditionals.proofs.ConditionLayers.{below_Not, below_And, below_Or}
 use Rattle.conditionals.proofs.Finishing.{put_aside, smaller_push, leads_not, leads_and, leads_or}
 use Rattle.conditionals.proofs.path.first.Goals as goal
 

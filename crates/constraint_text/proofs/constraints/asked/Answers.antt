@@ -1,8 +1,8 @@
 use Rattle.std.proofs.Common.{Err, ap, ◌∙◌, sym, refl}
 use Rattle.std.proofs.lemmas.Result.{err_from_is_err_and}
 use Rattle.constraint_text.specs.Constraints.{flags}
-use Rattle.entry_text.proofs.Cuts.{texts}
-use Rattle.entry_text.proofs.Found.{err_so, refuses_so}
+use Rattle.entry_text.proofs.CommaCuts.{texts}
+use Rattle.entry_text.proofs.FoundEntries.{err_so, refuses_so}
 use Rattle.constraint_text.proofs.OneConstraint.{bad_asked}
 use Rattle.constraint_text.proofs.constraints.asked.Goals as goal
 

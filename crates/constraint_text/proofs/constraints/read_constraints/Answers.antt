@@ -1,5 +1,5 @@
 use Rattle.constraint_text.specs.Constraints.{ConstraintEntry, Constraints, ConstraintsFault}
-use Rattle.entry_text.proofs.Only.{one_reading, one_first, reading_or_fault, only_reading, only_fault}
+use Rattle.entry_text.proofs.OneReading.{one_reading, one_first, reading_or_fault, only_reading, only_fault}
 use Rattle.constraint_text.proofs.OneConstraint.{constraint_settled}
 use Rattle.constraint_text.specs.Faults.{IsBadConstraint}
 use Rattle.constraint_text.proofs.constraints.read_constraints.Goals as goal

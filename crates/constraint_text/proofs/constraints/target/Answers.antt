@@ -2,7 +2,7 @@ use Rattle.std.proofs.Common.{◌≡◌, true, ap, ◌∙◌, sym, subst}
 use Rattle.plan_types.specs.Name.{is_package_name}
 use Rattle.plan_types.specs.declared.constraint.Scope.TheVariants.{SetupOf}
 use Rattle.constraint_text.specs.Constraints.{Target, scope_of}
-use Rattle.entry_text.proofs.Found.{ok_so}
+use Rattle.entry_text.proofs.FoundEntries.{ok_so}
 use Rattle.constraint_text.proofs.constraints.target.Goals as goal
 
 pub returns-in-Some-scope_of-clause-found : goal.returns-in-Some-scope_of-clause-found

@@ -2,7 +2,7 @@ use Rattle.std.proofs.Common.{refl}
 use Rattle.constraint_text.specs.Constraints.{range, other}
 use Rattle.constraint_text.proofs.Project.{no_range}
 use Rattle.constraint_text.proofs.OneConstraint.{never_asks}
-use Rattle.entry_text.proofs.Found.{ok_so, fault_so}
+use Rattle.entry_text.proofs.FoundEntries.{ok_so, fault_so}
 use Rattle.constraint_text.proofs.constraints.what.Goals as goal
 
 pub returns-in-Ok-clause-found : goal.returns-in-Ok-clause-found

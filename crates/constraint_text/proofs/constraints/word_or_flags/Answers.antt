@@ -1,7 +1,7 @@
 use Rattle.std.proofs.Common.{ap, ◌∙◌, sym, subst}
 use Rattle.constraint_text.specs.Constraints.{Required}
-use Rattle.entry_text.proofs.Cuts.{texts}
-use Rattle.entry_text.proofs.Found.{fault_so}
+use Rattle.entry_text.proofs.CommaCuts.{texts}
+use Rattle.entry_text.proofs.FoundEntries.{fault_so}
 use Rattle.constraint_text.proofs.constraints.word_or_flags.Goals as goal
 
 pub returns-clause-fault : goal.returns-clause-fault

@@ -1,6 +1,6 @@
 use Rattle.constraint_text.specs.Named.{NamedEntry}
 use Rattle.constraint_text.specs.Constraints.{ConstraintEntry}
-use Rattle.entry_text.proofs.Only as proof
+use Rattle.entry_text.proofs.OneReading as proof
 use Rattle.constraint_text.proofs.OneNamed.{named_settled}
 use Rattle.constraint_text.proofs.OneConstraint.{constraint_settled}
 use Rattle.constraint_text.proofs.OneRelax.{relax_settled}

@@ -1,5 +1,5 @@
 use Rattle.constraint_text.specs.Named.{NamedEntry, NamedRanges, NamedFault}
-use Rattle.entry_text.proofs.Only.{one_reading, one_first, reading_or_fault, only_reading, only_fault}
+use Rattle.entry_text.proofs.OneReading.{one_reading, one_first, reading_or_fault, only_reading, only_fault}
 use Rattle.constraint_text.proofs.OneNamed.{named_settled}
 use Rattle.constraint_text.specs.Faults.{IsBadConstraint}
 use Rattle.constraint_text.proofs.named.read_named.Goals as goal

@@ -4,7 +4,7 @@ use Rattle.plan_types.specs.declared.dependency.RelaxOwner.TheVariants as owners
 use Rattle.std.specs.Prelude.{None}
 use Rattle.constraint_text.specs.Relaxes.{Owner, Dependency}
 use Rattle.constraint_text.proofs.OneRelax.{all_text, never_all, never_of}
-use Rattle.entry_text.proofs.Found.{ok_so, fault_so}
+use Rattle.entry_text.proofs.FoundEntries.{ok_so, fault_so}
 use Rattle.constraint_text.proofs.relax.dependency.Goals as goal
 
 pub returns-then-is_all-clause-found : goal.returns-then-is_all-clause-found

@@ -1,6 +1,6 @@
 use Rattle.std.proofs.Common.{Err, ap, ◌∙◌}
 use Rattle.std.proofs.lemmas.Result.{err_from_is_err_and}
-use Rattle.entry_text.proofs.Found.{err_so, refuses_so}
+use Rattle.entry_text.proofs.FoundEntries.{err_so, refuses_so}
 use Rattle.constraint_text.proofs.relax.one_of.Goals as goal
 
 pub returns-in_err-owner-clause-fault : goal.returns-in_err-owner-clause-fault

@@ -1,7 +1,7 @@
 use Rattle.std.proofs.Common.{◌∙◌, sym, refl}
 use Rattle.constraint_text.specs.Relaxes.{Owner}
 use Rattle.constraint_text.proofs.OneRelax.{star_text, not_star, bad_owner}
-use Rattle.entry_text.proofs.Found.{ok_so, fault_so}
+use Rattle.entry_text.proofs.FoundEntries.{ok_so, fault_so}
 use Rattle.constraint_text.proofs.relax.owner.Goals as goal
 
 pub returns-then-is_star-clause-found : goal.returns-then-is_star-clause-found

@@ -1,8 +1,8 @@
 use Rattle.std.proofs.Common.{subst}
 use Rattle.constraint_text.specs.Relaxes.{RelaxedBy}
-use Rattle.entry_text.proofs.Cuts.{texts}
+use Rattle.entry_text.proofs.CommaCuts.{texts}
 use Rattle.constraint_text.proofs.OneRelax.{one_text, word_same}
-use Rattle.entry_text.proofs.Found.{ok_so, fault_so}
+use Rattle.entry_text.proofs.FoundEntries.{ok_so, fault_so}
 use Rattle.constraint_text.proofs.relax.relaxed.Goals as goal
 
 pub returns-in-len1-clause-found : goal.returns-in-len1-clause-found

@@ -1,7 +1,7 @@
 use Rattle.std.proofs.Common.{Err, ap, ◌∙◌, sym, refl}
 use Rattle.std.proofs.lemmas.Result.{err_from_is_err_and}
 use Rattle.constraint_text.specs.Relaxes.{RelaxedBy}
-use Rattle.entry_text.proofs.Found.{err_so, refuses_so}
+use Rattle.entry_text.proofs.FoundEntries.{err_so, refuses_so}
 use Rattle.constraint_text.proofs.OneRelax.{bad_relaxed}
 use Rattle.constraint_text.proofs.relax.relaxed_by.Goals as goal
 

@@ -1,6 +1,6 @@
 use Rattle.std.proofs.Common.{Err, ap, ◌∙◌, sym, refl, inl, inr}
 use Rattle.std.proofs.lemmas.Result.{err_from_is_err_and}
-use Rattle.entry_text.proofs.Found.{err_so, refuses_so}
+use Rattle.entry_text.proofs.FoundEntries.{err_so, refuses_so}
 use Rattle.constraint_text.proofs.OneRelax.{bad_release}
 use Rattle.constraint_text.proofs.relax.release.Goals as goal
 

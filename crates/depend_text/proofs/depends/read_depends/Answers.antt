@@ -1,5 +1,5 @@
 use Rattle.depend_text.specs.Depends.{LibraryEntry, LibraryFault, Depends, DependsFault}
-use Rattle.entry_text.proofs.Only.{one_reading, one_first, reading_or_fault, only_reading, only_fault}
+use Rattle.entry_text.proofs.OneReading.{one_reading, one_first, reading_or_fault, only_reading, only_fault}
 use Rattle.depend_text.proofs.OneLibrary.{library_settled}
 use Rattle.depend_text.proofs.depends.read_depends.Goals as goal
 

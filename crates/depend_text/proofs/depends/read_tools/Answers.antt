@@ -1,5 +1,5 @@
 use Rattle.depend_text.specs.Depends.{ToolEntry, ToolFault, Tools, ToolsFault}
-use Rattle.entry_text.proofs.Only.{one_reading, one_first, reading_or_fault, only_reading, only_fault}
+use Rattle.entry_text.proofs.OneReading.{one_reading, one_first, reading_or_fault, only_reading, only_fault}
 use Rattle.depend_text.proofs.OneLibrary.{tool_settled}
 use Rattle.depend_text.proofs.depends.read_tools.Goals as goal
 

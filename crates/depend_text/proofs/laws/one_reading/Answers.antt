@@ -1,5 +1,5 @@
 use Rattle.depend_text.specs.Depends.{LibraryEntry, ToolEntry}
-use Rattle.entry_text.proofs.Only as proof
+use Rattle.entry_text.proofs.OneReading as proof
 use Rattle.depend_text.proofs.OneLibrary.{library_settled, tool_settled}
 use Rattle.depend_text.proofs.laws.one_reading.Goals as goal
 

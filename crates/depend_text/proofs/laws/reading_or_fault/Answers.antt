@@ -1,5 +1,5 @@
 use Rattle.depend_text.specs.Depends.{LibraryEntry, LibraryFault, ToolEntry, ToolFault}
-use Rattle.entry_text.proofs.Only as proof
+use Rattle.entry_text.proofs.OneReading as proof
 use Rattle.depend_text.proofs.OneLibrary.{library_settled, tool_settled}
 use Rattle.depend_text.proofs.laws.reading_or_fault.Goals as goal
 

@@ -1,6 +1,6 @@
 use Rattle.std.proofs.Common.{◌∙◌, sym}
 use Rattle.depend_text.specs.Depends.{named, old, broken}
-use Rattle.entry_text.proofs.Found.{ok_so, fault_so}
+use Rattle.entry_text.proofs.FoundEntries.{ok_so, fault_so}
 use Rattle.depend_text.proofs.part.libraries.Goals as goal
 
 pub returns-then-is_old-clause-fault : goal.returns-then-is_old-clause-fault

@@ -1,8 +1,8 @@
 use Rattle.std.proofs.Common.{sym, subst}
 use Rattle.entry_text.specs.Entries.{Pieces}
-use Rattle.entry_text.proofs.Cuts.{texts}
+use Rattle.entry_text.proofs.CommaCuts.{texts}
 use Rattle.depend_text.proofs.Fits.{no_libraries}
-use Rattle.entry_text.proofs.Found.{fault_so}
+use Rattle.entry_text.proofs.FoundEntries.{fault_so}
 use Rattle.depend_text.proofs.part.libraries_in.Goals as goal
 
 pub returns-clause-fault : goal.returns-clause-fault

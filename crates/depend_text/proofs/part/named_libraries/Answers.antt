@@ -1,5 +1,5 @@
 use Rattle.depend_text.specs.Depends.{several}
-use Rattle.entry_text.proofs.Found.{ok_so}
+use Rattle.entry_text.proofs.FoundEntries.{ok_so}
 use Rattle.depend_text.proofs.part.named_libraries.Goals as goal
 
 pub returns-in-Some-clause-found : goal.returns-in-Some-clause-found

@@ -1,6 +1,6 @@
 use Rattle.std.proofs.Common.{subst}
 use Rattle.std.proofs.lemmas.Result.{IfOk-weaker}
-use Rattle.plan_types.proofs.Outcomes.{told-err}
+use Rattle.plan_types.proofs.OutcomeLemmas.{told-err}
 use Rattle.stanza_imports.specs.Bodies.{AreBodiesOf}
 use Rattle.description.proofs.read.described.Goals as goal
 

@@ -1,4 +1,4 @@
-use Rattle.section_syntax.proofs.Chained.{file-chained}
+use Rattle.section_syntax.proofs.ChainedParts.{file-chained}
 use Rattle.description.proofs.read.described_items.Goals as goal
 
 pub described-requires : goal.described-requires

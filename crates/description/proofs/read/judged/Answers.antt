@@ -3,7 +3,7 @@ use Rattle.std.specs.declared.result.Result.TheVariants.{Ok, Err}
 use Rattle.description.specs.Description.{IsFileOutcome}
 use Rattle.description.specs.FaultOrder.{is_at}
 use Rattle.std.proofs.lemmas.Result.{IfOk-weaker}
-use Rattle.plan_types.proofs.Outcomes.{told-err}
+use Rattle.plan_types.proofs.OutcomeLemmas.{told-err}
 use Rattle.description.proofs.read.judged.Goals as goal
 
 pub returns-in-None-clause-description : goal.returns-in-None-clause-description

@@ -1,5 +1,5 @@
 use Rattle.description.specs.Description.{Describes}
-use Rattle.description.proofs.OnlyOutcome.{is-only}
+use Rattle.description.proofs.SingleOutcome.{is-only}
 use Rattle.description.proofs.read.read_description.Goals as goal
 
 pub returns-clause-only : goal.returns-clause-only

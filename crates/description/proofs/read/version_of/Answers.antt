@@ -2,7 +2,7 @@ use Rattle.std.proofs.Common.{◌∙◌, ap, sym, take, ◌++◌, ◌∷◌, []}
 use Rattle.std.proofs.lemmas.List.{take_more}
 use Rattle.std.specs.Option.{option_or}
 use Rattle.description.specs.Description.{version_of, version_said}
-use Rattle.text_grammar.proofs.LastSaid.{last_push}
+use Rattle.text_grammar.proofs.LastValue.{last_push}
 use Rattle.description.specs.ShownVersion.{shown_version}
 use Rattle.description.proofs.read.version_of.Goals as goal
 

@@ -1,4 +1,4 @@
-use Rattle.elaborate.proofs.Needed.{told_before}
+use Rattle.elaborate.proofs.NeedsBefore.{told_before}
 use Rattle.elaborate.proofs.laws.each_need_told_before.Goals as goal
 
 pub returns : goal.returns

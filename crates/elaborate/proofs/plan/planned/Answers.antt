@@ -9,7 +9,7 @@ use Rattle.plan_components.specs.Chosen.{selection_of}
 use Rattle.elaborate.specs.Plan.{line_at}
 use Rattle.elaborate.specs.Ranks.{ranked_row, ranks_after}
 use Rattle.elaborate.specs.Telling.{told_in}
-use Rattle.elaborate.proofs.Planned.{is_graph, made_graph, places_within, ranked}
+use Rattle.elaborate.proofs.PlannedNodes.{is_graph, made_graph, places_within, ranked}
 use Rattle.elaborate.proofs.plan.planned.Goals as goal
 
 pub build_order-requires : goal.build_order-requires

@@ -1,7 +1,7 @@
 use Rattle.std.proofs.Common.{rules, is_lt}
 use Rattle.std.proofs.lemmas.Fn.{always_returns_same}
 use Rattle.elaborate.specs.Told.{told_cmp}
-use Rattle.elaborate.proofs.Order.{told-order}
+use Rattle.elaborate.proofs.NodeOrder.{told-order}
 use Rattle.elaborate.proofs.told.sort_told.Goals as goal
 
 pub returns-clause-sorted : goal.returns-clause-sorted

@@ -1,5 +1,5 @@
 use Rattle.std.proofs.Common.{sym, ◌∙◌, arith}
-use Rattle.entry_text.proofs.Cuts.{one_more}
+use Rattle.entry_text.proofs.CommaCuts.{one_more}
 use Rattle.entry_text.proofs.entries.piece_end.Goals as goal
 
 pub loop-at-preserved : goal.loop-at-preserved

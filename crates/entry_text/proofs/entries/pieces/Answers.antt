@@ -1,6 +1,6 @@
 use Rattle.std.proofs.Common.{◌∷◌, ◌++◌, [], sym, ap, ◌∙◌, append-nil, subst}
 use Rattle.entry_text.specs.Entries.{Pieces, last}
-use Rattle.entry_text.proofs.Cuts.{texts, joined_to, push_text}
+use Rattle.entry_text.proofs.CommaCuts.{texts, joined_to, push_text}
 use Rattle.entry_text.proofs.entries.pieces.Goals as goal
 
 pub loop-piece-preserved : goal.loop-piece-preserved

@@ -1,8 +1,8 @@
 use Rattle.std.proofs.Common.{Err, ap, ◌∙◌, subst, sym, ◌++◌}
 use Rattle.std.proofs.lemmas.Result.{err_from_is_err_and}
 use Rattle.entry_text.specs.Entries.{Each}
-use Rattle.entry_text.proofs.Cuts.{texts}
-use Rattle.entry_text.proofs.Found.{refuses_so, err_so, reads_more, fails_later, fails_here, reads_all}
+use Rattle.entry_text.proofs.CommaCuts.{texts}
+use Rattle.entry_text.proofs.FoundEntries.{refuses_so, err_so, reads_more, fails_later, fails_here, reads_all}
 use Rattle.entry_text.proofs.entries.read_each.Goals as goal
 
 pub returns-in_err-item-clause-fault : goal.returns-in_err-item-clause-fault

@@ -1,7 +1,7 @@
 use Rattle.std.proofs.Common.{List, ◌++◌, drop}
 use Rattle.plan_types.specs.declared.refusal.Cause.{Cause}
 use Rattle.entry_text.specs.Entries.{Each, First}
-use Rattle.entry_text.proofs.Cuts.{texts}
+use Rattle.entry_text.proofs.CommaCuts.{texts}
 use Rattle.entry_text.proofs.entries.read_each.Given as goal
 
 -- the values so far, followed by those of the remaining parts, are those of all parts

@@ -1,7 +1,7 @@
 use Rattle.std.proofs.Common.{◌≡◌, ◌-◌, length, take, sym, ap, ◌∙◌, false, true, arith}
 use Rattle.std.specs.Prelude.{◌==◌}
 use Rattle.std.proofs.lemmas.List.{length-map}
-use Rattle.entry_text.proofs.Cuts.{texts, last_text, some_borrow, blank_ends, other_ends, one_ends}
+use Rattle.entry_text.proofs.CommaCuts.{texts, last_text, some_borrow, blank_ends, other_ends, one_ends}
 use Rattle.entry_text.proofs.entries.without_last.Goals as goal
 
 pub returns-in-len1-up : goal.returns-in-len1-up

@@ -1,5 +1,5 @@
 use Rattle.std.proofs.Common.{ap, sym, ◌∙◌}
-use Rattle.entry_text.proofs.Cuts.{texts}
+use Rattle.entry_text.proofs.CommaCuts.{texts}
 use Rattle.entry_text.proofs.Filtered.{word_kept, word_dropped}
 use Rattle.entry_text.proofs.word.only_words.Goals as goal
 use Rattle.entry_text.proofs.word.only_words.Goals.{then-is_word+in_ok-push, else-is_word}

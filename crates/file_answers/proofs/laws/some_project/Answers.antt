@@ -1,4 +1,4 @@
-use Rattle.file_answers.proofs.Projects as proof
+use Rattle.file_answers.proofs.ProjectAnswers as proof
 use Rattle.file_answers.proofs.laws.some_project.Goals as goal
 
 pub returns : goal.returns

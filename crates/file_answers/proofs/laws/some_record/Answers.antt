@@ -1,4 +1,4 @@
-use Rattle.file_answers.proofs.Records as proof
+use Rattle.file_answers.proofs.RecordAnswers as proof
 use Rattle.file_answers.proofs.laws.some_record.Goals as goal
 
 pub returns : goal.returns

@@ -1,4 +1,4 @@
-use Rattle.file_answers.proofs.Sources as proof
+use Rattle.file_answers.proofs.SourceAnswers as proof
 use Rattle.file_answers.proofs.laws.some_source.Goals as goal
 
 pub returns : goal.returns

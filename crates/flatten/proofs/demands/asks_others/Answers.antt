@@ -1,7 +1,7 @@
 use Rattle.std.proofs.Common.{not, ap, ◌∙◌}
 use Rattle.std.specs.List.{list_any}
-use Rattle.plan_types.proofs.Groups.{some-in-groups}
-use Rattle.flatten.proofs.Groups.{is-other}
+use Rattle.plan_types.proofs.GroupTests.{some-in-groups}
+use Rattle.flatten.proofs.DependencyGroups.{is-other}
 use Rattle.flatten.proofs.demands.asks_others.Goals as goal
 
 pub returns : goal.returns

@@ -3,8 +3,8 @@ use Rattle.common_laws.specs.Lists.{drop_at}
 use Rattle.plan_types.specs.Guarded.{GuardedDep, of_group}
 use Rattle.plan_types.specs.declared.dependency.Dep.{Dep}
 use Rattle.flatten.specs.Demands.{demands_at, first_among, outward_among, outward_of}
-use Rattle.plan_types.proofs.Outcomes.{refused-as}
-use Rattle.flatten.proofs.Groups.{is-first, none-other, not-first, passed, taken}
+use Rattle.plan_types.proofs.OutcomeLemmas.{refused-as}
+use Rattle.flatten.proofs.DependencyGroups.{is-first, none-other, not-first, passed, taken}
 use Rattle.flatten.proofs.JoinedPaths.{asked-both, beyond-both, within-both}
 use Rattle.flatten.specs.Ways.{ways_of}
 use Rattle.plan_types.specs.Refusal.{RefusesAt}

@@ -7,10 +7,10 @@ use Rattle.plan_types.specs.Guarded.{in_groups, of_group}
 use Rattle.flatten.specs.Demands.{demands_at, first_among, outward_among, outward_in}
 use Rattle.std.specs.Prelude.{slice_get}
 use Rattle.condition_outlook.specs.Outlook.{IsOutlookAt}
-use Rattle.condition_outlook.proofs.Places.{outlook-at}
+use Rattle.condition_outlook.proofs.OutlookPlaces.{outlook-at}
 use Rattle.flatten.proofs.FirstBeyond.{none_among, some_among}
-use Rattle.plan_types.proofs.Outcomes.{refused-as}
-use Rattle.flatten.proofs.Groups.{outward-append}
+use Rattle.plan_types.proofs.OutcomeLemmas.{refused-as}
+use Rattle.flatten.proofs.DependencyGroups.{outward-append}
 use Rattle.flatten.proofs.demands.push_outward.Goals as goal
 
 pub push_group-requires-clause-known : goal.push_group-requires-clause-known

@@ -3,7 +3,7 @@ use Rattle.std.proofs.lemmas.Grind.{common_steps}
 use Rattle.indexmap.specs.IndexSet.{insert_key}
 use Rattle.plan_types.specs.declared.dependency.Named.{Named}
 use Rattle.index_files.specs.Names.{is_listed}
-use Rattle.qualified_goals.proofs.Numbers.{names-stay}
+use Rattle.qualified_goals.proofs.NameNumbers.{names-stay}
 use Rattle.index_assembly.proofs.Gathering.{asked-for}
 use Rattle.plan_types.specs.Bytes.{same_text}
 use Rattle.index_assembly.proofs.index.extra_names.Goals as goal

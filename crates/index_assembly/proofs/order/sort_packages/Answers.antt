@@ -1,7 +1,7 @@
 use Rattle.std.proofs.Common.{rules}
 use Rattle.std.proofs.lemmas.Fn.{always_returns_same}
 use Rattle.index_assembly.specs.Index.{is_package_below}
-use Rattle.index_assembly.proofs.Sorting.{sorted-is, package-order}
+use Rattle.index_assembly.proofs.StableSorts.{sorted-is, package-order}
 use Rattle.index_assembly.proofs.order.sort_packages.Goals as goal
 
 pub returns : goal.returns

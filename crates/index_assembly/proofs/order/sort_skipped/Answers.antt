@@ -1,7 +1,7 @@
 use Rattle.std.proofs.Common.{rules}
 use Rattle.std.proofs.lemmas.Fn.{always_returns_same}
 use Rattle.index_assembly.specs.Index.{is_path_below}
-use Rattle.index_assembly.proofs.Sorting.{sorted-is, path-order}
+use Rattle.index_assembly.proofs.StableSorts.{sorted-is, path-order}
 use Rattle.index_assembly.proofs.order.sort_skipped.Goals as goal
 
 pub returns : goal.returns

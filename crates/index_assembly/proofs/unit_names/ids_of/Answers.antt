@@ -2,7 +2,7 @@ use Rattle.std.proofs.Common.{◌≡◌, ◌∙◌, [], fold, arith}
 use Rattle.std.proofs.lemmas.Grind.{common_steps}
 use Rattle.indexmap.specs.IndexSet.{insert_key}
 use Rattle.index_files.specs.Units.{unit_id, unit_ids}
-use Rattle.qualified_goals.proofs.Numbers.{distinct-kept, put-one}
+use Rattle.qualified_goals.proofs.NameNumbers.{distinct-kept, put-one}
 use Rattle.plan_types.specs.Bytes.{same_text}
 use Rattle.index_assembly.proofs.unit_names.ids_of.Goals as goal
 

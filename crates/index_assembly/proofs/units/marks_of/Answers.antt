@@ -1,7 +1,7 @@
 use Rattle.std.proofs.Common.{◌≡◌, ◌∷◌, ◌++◌, [], ap, sym, ◌∙◌}
 use Rattle.std.specs.Prelude.{position}
 use Rattle.std.specs.List.{list_any}
-use Rattle.index_files.proofs.Lists.{map_take}
+use Rattle.index_files.proofs.KnownFiles.{map_take}
 use Rattle.index_assembly.specs.Lacks.{is_none, lacks_one}
 use Rattle.plan_types.specs.Bytes.{same_text}
 use Rattle.index_assembly.proofs.units.marks_of.Goals as goal

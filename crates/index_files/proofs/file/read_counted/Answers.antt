@@ -2,8 +2,8 @@ use Rattle.std.proofs.Common.{◌≡◌, ◌+◌, true, false, ◌∷◌, ◌++�
 use Rattle.std.proofs.lemmas.List.{take_all}
 use Rattle.index_files.specs.File.{file_found, fitting}
 use Rattle.index_files.specs.Totals.{is_too_many}
-use Rattle.index_files.proofs.Fitting.{fit_all, fit_ends}
-use Rattle.index_files.proofs.Lists.{map_split}
+use Rattle.index_files.proofs.FileTotals.{fit_all, fit_ends}
+use Rattle.index_files.proofs.KnownFiles.{map_split}
 use Rattle.std.proofs.lemmas.Bool.{not-false}
 use Rattle.common_laws.specs.Small.{if_some, some_at}
 use Rattle.index_files.proofs.file.read_counted.Goals as goal

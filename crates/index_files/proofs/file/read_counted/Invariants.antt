@@ -4,7 +4,7 @@ use Rattle.std.specs.List.{AllByRecursion}
 use Rattle.outside_folder.specs.Calls.{Leaves}
 use Rattle.outside_folder.specs.Files.{Files}
 use Rattle.index_files.specs.File.{Counts, HasContentWithinLimit, file_found}
-use Rattle.index_files.proofs.Fitting.{Fit}
+use Rattle.index_files.proofs.FileTotals.{Fit}
 use Rattle.index_files.proofs.file.read_counted.Given as goal
 
 abbrev pub invariant-loop-path : goal.invariant-loop-path

@@ -11,8 +11,8 @@ use Rattle.index_files.specs.declared.file.ReadFile.{ReadFile}
 use Rattle.index_files.specs.declared.local.Local.{Local}
 use Rattle.index_files.specs.declared.locals.Locals.{Locals}
 use Rattle.index_files.proofs.Forms.{locals-from-files}
-use Rattle.index_files.proofs.Lists.{map_split, map_take}
-use Rattle.index_files.proofs.Turns.{Through, begun, halted, more, never-passed, settled, troubled, whole}
+use Rattle.index_files.proofs.KnownFiles.{map_split, map_take}
+use Rattle.index_files.proofs.StepsInTurn.{Through, begun, halted, more, never-passed, settled, troubled, whole}
 use Rattle.common_laws.specs.Small.{if_some, some_at}
 use Rattle.index_files.proofs.locals.read_locals.Goals as goal
 

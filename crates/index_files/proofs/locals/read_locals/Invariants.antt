@@ -5,7 +5,7 @@ use Rattle.outside_folder.specs.Files.{Files}
 use Rattle.index_files.specs.File.{file_found}
 use Rattle.index_files.specs.Locals.{FileComes, with_file}
 use Rattle.index_files.specs.declared.file.ReadFile.{ReadFile}
-use Rattle.index_files.proofs.Turns.{Through}
+use Rattle.index_files.proofs.StepsInTurn.{Through}
 use Rattle.index_files.proofs.locals.read_locals.Given as goal
 
 abbrev pub invariant-loop-path : goal.invariant-loop-path

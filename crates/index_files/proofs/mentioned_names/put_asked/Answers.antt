@@ -1,6 +1,6 @@
 use Rattle.index_files.specs.Releases.{asked_by}
 use Rattle.index_files.specs.declared.release.Release.{Release}
-use Rattle.index_files.proofs.Put.{put_more}
+use Rattle.index_files.proofs.AddedNames.{put_more}
 use Rattle.index_files.proofs.mentioned_names.put_asked.Goals as goal
 
 pub loop-release-preserved : goal.loop-release-preserved

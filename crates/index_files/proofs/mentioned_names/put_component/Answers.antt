@@ -4,7 +4,7 @@ use Rattle.flatten.specs.Demands.{outward_among}
 use Rattle.index_files.specs.Names.{put_all}
 use Rattle.index_files.specs.Releases.{outward_name}
 use Rattle.index_files.proofs.Groups.{group_names, names-in-groups}
-use Rattle.index_files.proofs.Put.{put_more}
+use Rattle.index_files.proofs.AddedNames.{put_more}
 use Rattle.index_files.proofs.mentioned_names.put_component.Goals as goal
 
 pub loop-group-preserved : goal.loop-group-preserved

@@ -2,7 +2,7 @@ use Rattle.std.proofs.Common.{[], ◌∷◌, cond, flat_map, sym, ap, ◌∙◌,
 use Rattle.std.proofs.lemmas.List.{take_all}
 use Rattle.index_files.specs.Names.{put, put_all}
 use Rattle.index_files.proofs.Groups.{asked_name, names-in-group}
-use Rattle.index_files.proofs.Put.{put_more}
+use Rattle.index_files.proofs.AddedNames.{put_more}
 use Rattle.index_files.proofs.mentioned_names.put_group.Goals.{then-not-get+in_ok-put, else-not-get}
 use Rattle.index_files.proofs.mentioned_names.put_group.Goals as goal
 

@@ -1,5 +1,5 @@
 use Rattle.plan_types.specs.declared.dependency.Dep.{Dep}
-use Rattle.index_files.proofs.Put.{put_one}
+use Rattle.index_files.proofs.AddedNames.{put_one}
 use Rattle.index_files.proofs.mentioned_names.put_packages.Goals as goal
 
 pub loop-dep-preserved : goal.loop-dep-preserved

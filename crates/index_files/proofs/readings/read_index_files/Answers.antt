@@ -14,7 +14,7 @@ use Rattle.index_files.specs.declared.locals.Locals.{Locals}
 use Rattle.index_files.specs.declared.units.Counted.{Counted}
 use Rattle.index_files.specs.declared.unit.Unit.{Unit}
 use Rattle.index_files.proofs.Ending.{locals-refused, then-indexed, then-refused}
-use Rattle.index_files.proofs.Turns.{refused-as}
+use Rattle.index_files.proofs.StepsInTurn.{refused-as}
 use Rattle.plan_types.specs.Bytes.{same_text}
 use Rattle.common_laws.specs.Small.{if_some, some_at}
 use Rattle.index_files.proofs.readings.read_index_files.Goals as goal

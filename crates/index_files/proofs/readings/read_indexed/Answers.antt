@@ -6,7 +6,7 @@ use Rattle.index_files.specs.Closure.{Ground, Reaches}
 use Rattle.plan_types.specs.Refusal.{Answers}
 use Rattle.index_files.specs.Readings.{AreIndexed, AreOverGround, AreRead}
 use Rattle.index_files.proofs.Forms.{all-formed}
-use Rattle.index_files.proofs.Turns.{troubled}
+use Rattle.index_files.proofs.StepsInTurn.{troubled}
 use Rattle.common_laws.specs.Small.{if_some, some_at}
 use Rattle.index_files.proofs.readings.read_indexed.Goals as goal
 

@@ -7,7 +7,7 @@ use Rattle.index_files.specs.InTurn.{OnPart}
 use Rattle.plan_types.specs.Refusal.{Answers}
 use Rattle.index_files.specs.Units.{AreUnitsOf, ReadsUnits}
 use Rattle.index_files.specs.declared.units.Counted.{Counted}
-use Rattle.index_files.proofs.Turns.{troubled}
+use Rattle.index_files.proofs.StepsInTurn.{troubled}
 use Rattle.common_laws.specs.Small.{if_some, some_at}
 use Rattle.index_files.proofs.readings.read_units.Goals as goal
 

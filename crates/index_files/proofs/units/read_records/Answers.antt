@@ -14,9 +14,9 @@ use Rattle.index_files.specs.declared.unit.Unit.{Unit}
 use Rattle.index_files.specs.declared.units.Counted.{Counted}
 use Rattle.index_files.specs.declared.units.Units.{Units}
 use Rattle.index_files.proofs.Forms.{units-once}
-use Rattle.index_files.proofs.Lists.{map_split, map_take}
+use Rattle.index_files.proofs.KnownFiles.{map_split, map_take}
 use Rattle.index_files.proofs.Recording.{bytes-on, counts-first, files-on, fit-first, fit-on, units-all, units-beyond, units-halted}
-use Rattle.index_files.proofs.Turns.{Through, begun, more, never-passed, troubled, whole}
+use Rattle.index_files.proofs.StepsInTurn.{Through, begun, more, never-passed, troubled, whole}
 use Rattle.common_laws.specs.Small.{if_some, some_at}
 use Rattle.index_files.proofs.units.read_records.Goals as goal
 

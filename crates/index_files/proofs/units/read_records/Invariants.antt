@@ -5,8 +5,8 @@ use Rattle.outside_folder.specs.Files.{Files}
 use Rattle.index_files.specs.File.{CountsAll, file_found}
 use Rattle.index_files.specs.Units.{RecordComes, with_record}
 use Rattle.index_files.specs.declared.file.ReadFile.{ReadFile}
-use Rattle.index_files.proofs.Fitting.{Fit}
-use Rattle.index_files.proofs.Turns.{Through}
+use Rattle.index_files.proofs.FileTotals.{Fit}
+use Rattle.index_files.proofs.StepsInTurn.{Through}
 use Rattle.index_files.proofs.units.read_records.Given as goal
 
 abbrev pub invariant-loop-path : goal.invariant-loop-path

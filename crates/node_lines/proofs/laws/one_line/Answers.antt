@@ -1,4 +1,4 @@
-use Rattle.node_lines.proofs.Once.{one}
+use Rattle.node_lines.proofs.OneLine.{one}
 use Rattle.node_lines.proofs.laws.one_line.Goals as goal
 
 pub returns : goal.returns

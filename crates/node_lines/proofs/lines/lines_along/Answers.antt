@@ -1,6 +1,6 @@
 use Rattle.std.proofs.Common.{◌<◌, length, slice_index_or, sym, subst, ap, ◌∙◌, take}
 use Rattle.plan_components.specs.Chosen.{selection_of}
-use Rattle.node_lines.proofs.Making.{lines_count}
+use Rattle.node_lines.proofs.LineMaking.{lines_count}
 use Rattle.node_lines.proofs.lines.lines_along.Goals as goal
 
 pub set-requires : goal.set-requires

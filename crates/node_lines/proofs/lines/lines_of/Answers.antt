@@ -6,8 +6,8 @@ use Rattle.common_laws.specs.Graphs.{IsGraph}
 use Rattle.plan_components.specs.Chosen.{selection_of}
 use Rattle.node_lines.specs.Along.{lines_along}
 use Rattle.node_lines.specs.Lines.{AreLines}
-use Rattle.node_lines.proofs.Making.{all_inside, are_lines}
-use Rattle.node_lines.proofs.Places.{is_graph}
+use Rattle.node_lines.proofs.LineMaking.{all_inside, are_lines}
+use Rattle.node_lines.proofs.NodePlaces.{is_graph}
 use Rattle.node_lines.proofs.lines.lines_of.Goals as goal
 
 pub build_order-requires : goal.build_order-requires

@@ -1,4 +1,4 @@
-use Rattle.order_answers.proofs.Orders as proof
+use Rattle.order_answers.proofs.SomeOrder as proof
 use Rattle.order_answers.proofs.laws.some_order.Goals as goal
 
 pub returns : goal.returns

@@ -8,7 +8,7 @@ use Rattle.stanza_imports.specs.declared.stanzas.Built.{Built}
 use Rattle.package_declarations.proofs.PushLoops.{one_pushed, all_pushed}
 use Rattle.package_declarations.proofs.ShownComponents.{all_shown}
 use Rattle.stanza_imports.specs.Bodies.{table, body_parts, built_component}
-use Rattle.stanza_imports.proofs.Chained.{bodies-chained}
+use Rattle.stanza_imports.proofs.ChainedImports.{bodies-chained}
 use Rattle.package_declarations.proofs.component.components.Goals as goal
 
 pub loop-one-preserved : goal.loop-one-preserved

@@ -1,6 +1,6 @@
 use Rattle.std.proofs.Common.{Ok, refl}
 use Rattle.index_assembly.specs.Folder.{IsFolderIndex}
-use Rattle.index_files.proofs.Turns.{quiet}
+use Rattle.index_files.proofs.StepsInTurn.{quiet}
 use Rattle.common_laws.specs.Small.{if_some, some_at}
 use Rattle.package_index.proofs.build.build_index.Goals as goal
 

@@ -1,6 +1,6 @@
 use Rattle.std.proofs.Common.{sym, subst}
 use Rattle.plan_components.specs.Steps.{AppendsNew}
-use Rattle.plan_components.proofs.Putting.{puts_key}
+use Rattle.plan_components.proofs.AddedNodes.{puts_key}
 use Rattle.plan_components.proofs.put.put.Goals as goal
 
 pub returns : goal.returns

@@ -1,7 +1,7 @@
 use Rattle.std.proofs.Common.{sym, subst, take, ◌+◌}
 use Rattle.plan_components.specs.declared.node.Node.{Node}
 use Rattle.plan_components.specs.Steps.{AppendsNew, no_node}
-use Rattle.plan_components.proofs.Putting.{puts_more, same-list}
+use Rattle.plan_components.proofs.AddedNodes.{puts_more, same-list}
 use Rattle.plan_components.proofs.put.put_all.Goals as goal
 
 pub loop-other-preserved : goal.loop-other-preserved

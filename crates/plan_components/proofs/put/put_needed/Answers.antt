@@ -1,7 +1,7 @@
 use Rattle.plan_types.specs.declared.dependency.DepKind.TheVariants.{Library}
 use Rattle.plan_components.specs.declared.node.Need.{Need}
 use Rattle.plan_components.specs.Steps.{no_node}
-use Rattle.plan_components.proofs.Putting.{puts_more}
+use Rattle.plan_components.proofs.AddedNodes.{puts_more}
 use Rattle.plan_components.proofs.put.put_needed.Goals as goal
 
 pub loop-need-preserved : goal.loop-need-preserved

@@ -2,8 +2,8 @@ use Rattle.std.proofs.Common.{◌<◌, ◌≤◌, ◌≡◌, length, sym, subst,
 use Rattle.plan_components.specs.Chosen.{selection_of}
 use Rattle.plan_components.specs.Needs.{needed_nodes, needs_of}
 use Rattle.plan_components.specs.Steps.{AppendsNew, node_at}
-use Rattle.plan_components.proofs.Nodes.{differ}
-use Rattle.plan_components.proofs.Walk.{Keeps, all_needs, each_reached, keeps_first, keeps_next}
+use Rattle.plan_components.proofs.SameNodes.{differ}
+use Rattle.plan_components.proofs.NodeWalk.{Keeps, all_needs, each_reached, keeps_first, keeps_next}
 use Rattle.plan_components.proofs.reached.reach.Goals as goal
 
 pub loop-alloc-init : goal.loop-alloc-init

@@ -1,5 +1,5 @@
 use Rattle.std.proofs.Common.{◌-◌, ◌^◌, length, IfSome}
-use Rattle.plan_components.proofs.Walk.{Keeps}
+use Rattle.plan_components.proofs.NodeWalk.{Keeps}
 use Rattle.plan_components.specs.Chosen.{selection_of}
 use Rattle.plan_components.specs.Known.{IsKnown}
 use Rattle.plan_components.proofs.reached.reach.Given as goal

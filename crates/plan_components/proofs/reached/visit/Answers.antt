@@ -3,7 +3,7 @@ use Rattle.plan_components.specs.declared.node.Need.{Need}
 use Rattle.plan_components.specs.Chosen.{selection_of}
 use Rattle.plan_components.specs.Needs.{needs_of}
 use Rattle.plan_components.specs.Steps.{AppendsNew}
-use Rattle.plan_components.proofs.Walk.{here_is}
+use Rattle.plan_components.proofs.NodeWalk.{here_is}
 use Rattle.plan_components.proofs.reached.visit.Goals as goal
 
 pub returns-clause-needs : goal.returns-clause-needs

@@ -2,7 +2,7 @@ use Rattle.std.proofs.Common.{◌≡◌, ◌++◌, map, zip, append-nil, sym, ap
 use Rattle.serde_json.specs.Data.{array}
 use Rattle.serde_json.specs.View.{items_of, view}
 use Rattle.plan_json.specs.Values.{freed_value}
-use Rattle.plan_print.proofs.Zips.{zip-done}
+use Rattle.plan_print.proofs.ListPairs.{zip-done}
 use Rattle.plan_json.proofs.parts.freed_list.Goals as goal
 
 pub returns : goal.returns

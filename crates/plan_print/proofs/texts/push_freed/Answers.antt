@@ -1,6 +1,6 @@
 use Rattle.std.proofs.Common.{◌≡◌, ◌++◌, flat_map, sym, ap, append-nil, ◌∙◌}
 use Rattle.plan_print.specs.Texts.{freed_lines}
-use Rattle.plan_print.proofs.Zips.{zip-done}
+use Rattle.plan_print.proofs.ListPairs.{zip-done}
 use Rattle.plan_print.proofs.texts.push_freed.Goals as goal
 
 pub returns : goal.returns

@@ -4,7 +4,7 @@ use Rattle.std.specs.Prelude.{IfOk}
 use Rattle.project_config.specs.Project.{IsFolderProject, freeze_bytes}
 use Rattle.plan_task.specs.Task.{IsTask, IsTaskOf}
 use Rattle.plan_task.specs.declared.task.Task.{Task}
-use Rattle.project_config.proofs.Locating.{passed-on}
+use Rattle.project_config.proofs.LocatedPackages.{passed-on}
 use Rattle.plan_task.proofs.Tasks.{answered}
 use Rattle.common_laws.specs.Small.{if_some, some_at}
 use Rattle.plan_types.specs.Refusal.{Answers}

@@ -1,7 +1,7 @@
 use Rattle.std.proofs.Common.{length}
 use Rattle.std.specs.List.{range_with_len}
 use Rattle.preferences.specs.Places.{place_cmp}
-use Rattle.preferences.proofs.Orders.{place-total, place-ties}
+use Rattle.preferences.proofs.TotalOrders.{place-total, place-ties}
 use Rattle.preferences.proofs.Unique.{sorted-same, permuted-count}
 use Rattle.preferences.proofs.laws.one_order.Goals as goal
 

@@ -4,7 +4,7 @@ use Rattle.std.proofs.lemmas.List.Sorted.{ranks_by}
 use Rattle.std.proofs.lemmas.Fn.{always_returns_same}
 use Rattle.preferences.specs.declared.candidate.Candidate.{Candidate}
 use Rattle.preferences.specs.Candidate.{candidate_cmp}
-use Rattle.preferences.proofs.Orders.{candidate-total}
+use Rattle.preferences.proofs.TotalOrders.{candidate-total}
 use Rattle.preferences.proofs.places.sort.Goals as goal
 
 pub returns-clause-sorted : goal.returns-clause-sorted

@@ -12,10 +12,10 @@ use Rattle.plan_types.specs.declared.project.Project.{Project}
 use Rattle.plan_types.specs.Refusal.{Answers, Settles}
 use Rattle.project_file.specs.Read.{IsProject}
 use Rattle.project_file.specs.declared.read.ProjectText.{ProjectText}
-use Rattle.project_file.proofs.Extra.{project-named}
+use Rattle.project_file.proofs.ExtraPackages.{project-named}
 use Rattle.project_config.specs.Project.{AreSaid, project_files}
 use Rattle.project_config.specs.declared.files.FilesProject.{FilesProject}
-use Rattle.project_config.proofs.Locating.{all_said, large_said, refused_said}
+use Rattle.project_config.proofs.LocatedPackages.{all_said, large_said, refused_said}
 use Rattle.project_config.proofs.Reading.{GoesOn, implicit_at_end, kept_at_end, more_read}
 use Rattle.project_config.proofs.Texts.{last_is_text}
 use Rattle.common_laws.specs.Small.{if_some, some_at}

@@ -1,7 +1,7 @@
 use Rattle.std.proofs.Common.{◌≡◌, Ok, Err, ap, subst, sym, ◌∙◌}
 use Rattle.std.proofs.lemmas.Result.{err_from_is_err_and}
 use Rattle.project_config.specs.Project.{AreSaid, IsFolderProject}
-use Rattle.project_config.proofs.Locating.{located_in, unlocated, unread}
+use Rattle.project_config.proofs.LocatedPackages.{located_in, unlocated, unread}
 use Rattle.common_laws.specs.Small.{if_some, some_at}
 use Rattle.plan_types.specs.Refusal.{Answers}
 use Rattle.project_config.proofs.project.read_folder_project.Goals as goal

@@ -1,6 +1,6 @@
 use Rattle.std.proofs.Common.{◌≤◌, ◌∙◌, ap, sym, subst, arith}
 use Rattle.plan_types.specs.declared.condition.Cond.{size-Cond}
-use Rattle.conditionals.proofs.Layers.{below_Not, below_And, below_Or}
+use Rattle.conditionals.proofs.ConditionLayers.{below_Not, below_And, below_Or}
 use Rattle.project_file.specs.Branches.{has_flag}
 use Rattle.project_file.proofs.Flagged as flagged
 use Rattle.project_file.proofs.branch.+has_flag.Goals as goal

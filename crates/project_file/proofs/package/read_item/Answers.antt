@@ -3,7 +3,7 @@ use Rattle.std.proofs.lemmas.Result.{on_ok_weaker}
 use Rattle.plan_types.specs.Bytes.{joined_text}
 use Rattle.project_file.specs.Parts.{flag_part, flag_parts}
 use Rattle.project_file.proofs.Walk.{flag_field, flag_section}
-use Rattle.cabal_lexer.proofs.Trees.{added}
+use Rattle.cabal_lexer.proofs.ElementTrees.{added}
 use Rattle.project_file.proofs.package.read_item.Goals as goal
 
 pub returns-in-Field : goal.returns-in-Field

@@ -1,8 +1,8 @@
 use Rattle.std.proofs.Common.{◌≡◌, ◌<◌, ◌≤◌, Ok, Err, length, get_or, take, ap, subst, sym, ◌∙◌}
 use Rattle.std.proofs.lemmas.Result.{err_from_is_err_and}
 use Rattle.project_file.specs.Read.{IsProject}
-use Rattle.project_file.proofs.Extra.{project-named}
-use Rattle.project_file.proofs.Files.{all-taken, halted-at, taken-more}
+use Rattle.project_file.proofs.ExtraPackages.{project-named}
+use Rattle.project_file.proofs.ProjectFiles.{all-taken, halted-at, taken-more}
 use Rattle.plan_types.specs.Refusal.{Settles}
 use Rattle.project_file.proofs.read.read_project.Goals as goal
 

@@ -1,7 +1,7 @@
 use Rattle.std.proofs.Common.{◌≡◌, Err, ◌∷◌, ◌++◌, [], ap, subst, sym, ◌∙◌}
 use Rattle.std.proofs.lemmas.Result.{err_from_is_err_and}
 use Rattle.project_file.specs.Read.{IsProject}
-use Rattle.project_file.proofs.Files.{one-halted, one-more}
+use Rattle.project_file.proofs.ProjectFiles.{one-halted, one-more}
 use Rattle.plan_types.specs.Refusal.{Settles}
 use Rattle.project_file.proofs.read.with_project_file.Goals as goal
 

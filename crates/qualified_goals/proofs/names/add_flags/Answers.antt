@@ -1,5 +1,5 @@
 use Rattle.plan_types.specs.declared.description.FlagDecl.{FlagDecl}
-use Rattle.qualified_goals.proofs.Numbers.{put-one}
+use Rattle.qualified_goals.proofs.NameNumbers.{put-one}
 use Rattle.qualified_goals.proofs.names.add_flags.Goals as goal
 
 pub loop-flag-preserved : goal.loop-flag-preserved

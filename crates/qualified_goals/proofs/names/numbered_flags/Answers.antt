@@ -1,6 +1,6 @@
 use Rattle.std.proofs.Common.{◌∙◌, ap}
 use Rattle.qualified_goals.specs.Names.{flag_names, is_listed}
-use Rattle.qualified_goals.proofs.Numbers.{names-stay, sorted-rise}
+use Rattle.qualified_goals.proofs.NameNumbers.{names-stay, sorted-rise}
 use Rattle.qualified_goals.proofs.names.numbered_flags.Goals as goal
 
 pub returns-clause-rising : goal.returns-clause-rising

@@ -3,7 +3,7 @@ use Rattle.std.proofs.lemmas.Grind.{common_steps}
 use Rattle.indexmap.specs.IndexSet.{insert_key}
 use Rattle.plan_types.specs.declared.index.Package.{Package}
 use Rattle.qualified_goals.specs.Names.{package_names}
-use Rattle.qualified_goals.proofs.Numbers.{distinct-kept, put-one}
+use Rattle.qualified_goals.proofs.NameNumbers.{distinct-kept, put-one}
 use Rattle.plan_types.specs.Bytes.{same_text}
 use Rattle.qualified_goals.proofs.names.numbered_packages.Goals as goal
 

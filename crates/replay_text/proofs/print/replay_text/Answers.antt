@@ -1,6 +1,6 @@
 use Rattle.std.proofs.Common.{List, [], ◌∷◌, ◌++◌, length, take, sym, subst, ap, ◌∙◌, arith, take_all}
 use Rattle.std.proofs.lemmas.List.{map-append, take_more}
-use Rattle.plan_jobs.proofs.Told.{after_count}
+use Rattle.plan_jobs.proofs.NextStates.{after_count}
 use Rattle.replay_text.specs.Replay.{IsCounted, asked}
 use Rattle.replay_text.proofs.Count.{told_more}
 use Rattle.replay_text.proofs.print.replay_text.Goals as goal

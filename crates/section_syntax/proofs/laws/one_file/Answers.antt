@@ -1,4 +1,4 @@
-use Rattle.section_syntax.proofs.One as proof
+use Rattle.section_syntax.proofs.OneFile as proof
 use Rattle.section_syntax.proofs.laws.one_file.Goals as goal
 
 pub returns : goal.returns

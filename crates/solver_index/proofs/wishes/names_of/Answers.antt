@@ -4,7 +4,7 @@ use Rattle.indexmap.specs.IndexSet.{insert_key}
 use Rattle.plan_types.specs.declared.dependency.Named.{Named}
 use Rattle.plan_types.specs.Bytes.{same_text}
 use Rattle.qualified_goals.specs.Names.{is_listed}
-use Rattle.qualified_goals.proofs.Numbers.{names-stay}
+use Rattle.qualified_goals.proofs.NameNumbers.{names-stay}
 use Rattle.solver_index.proofs.Wished.{asked-for}
 use Rattle.solver_index.proofs.wishes.names_of.Goals as goal
 

@@ -1,4 +1,4 @@
-use Rattle.text_answers.proofs.Readings as proof
+use Rattle.text_answers.proofs.LoopReadings as proof
 use Rattle.text_answers.proofs.laws.some_condition.Goals as goal
 
 pub returns : goal.returns

@@ -1,10 +1,10 @@
 use Rattle.constraint_text.specs.Constraints.{ConstraintEntry}
 use Rattle.constraint_text.specs.Faults.{IsBadConstraint}
 use Rattle.constraint_text.specs.Named.{NamedEntry}
-use Rattle.text_answers.proofs.Constraints.{named_decided, some_constraint}
-use Rattle.text_answers.proofs.Decided.{bad_as_none}
-use Rattle.text_answers.proofs.Entries as proof
-use Rattle.text_answers.proofs.Relaxes.{some_relaxes}
+use Rattle.text_answers.proofs.ConstraintAnswers.{named_decided, some_constraint}
+use Rattle.text_answers.proofs.DecidedReadings.{bad_as_none}
+use Rattle.text_answers.proofs.EntryAnswers as proof
+use Rattle.text_answers.proofs.RelaxAnswers.{some_relaxes}
 use Rattle.text_answers.proofs.laws.some_constraints.Goals as goal
 
 pub returns-clause-named : goal.returns-clause-named

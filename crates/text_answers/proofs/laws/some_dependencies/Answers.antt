@@ -1,6 +1,6 @@
 use Rattle.depend_text.specs.Depends.{LibraryEntry, LibraryFault, ToolEntry, ToolFault}
-use Rattle.text_answers.proofs.Entries as proof
-use Rattle.text_answers.proofs.Depends.{some_library, some_tool}
+use Rattle.text_answers.proofs.EntryAnswers as proof
+use Rattle.text_answers.proofs.DependencyAnswers.{some_library, some_tool}
 use Rattle.text_answers.proofs.laws.some_dependencies.Goals as goal
 
 pub returns-clause-depends : goal.returns-clause-depends

@@ -1,6 +1,6 @@
 use Rattle.std.proofs.Common.{◌≢◌, [], length, refl, ap, sym, ◌∙◌}
 use Rattle.std.proofs.lemmas.Bool.{false≢true, eq-eqb}
-use Rattle.version_range.proofs.Relaxing.{lowered_by}
+use Rattle.version_range.proofs.RelaxedCuts.{lowered_by}
 use Rattle.version_range.proofs.cuts.from_least.Goals as goal
 
 pub returns-clause-ends : goal.returns-clause-ends

@@ -1,5 +1,5 @@
 use Rattle.std.proofs.Common.{◌≡◌, ◌≢◌, ◌<◌, ◌%◌, ◌↔◌, IsSome, length, ap, sym, ◌∙◌}
-use Rattle.version_range.proofs.Relaxing.{lifted_by, kept_by}
+use Rattle.version_range.proofs.RelaxedCuts.{lifted_by, kept_by}
 use Rattle.version_range.proofs.cuts.without_stop.Goals as goal
 
 pub returns-then-len-eq0-clause-ends : goal.returns-then-len-eq0-clause-ends

@@ -1,4 +1,4 @@
-use Rattle.version_range.proofs.Exact as proof
+use Rattle.version_range.proofs.OneRange as proof
 use Rattle.version_range.proofs.laws.range_or_fault.Goals as goal
 
 pub returns : goal.returns

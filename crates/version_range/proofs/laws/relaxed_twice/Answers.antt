@@ -1,5 +1,5 @@
 use Rattle.std.proofs.Common.{true, false}
-use Rattle.version_range.proofs.Relaxing as proof
+use Rattle.version_range.proofs.RelaxedCuts as proof
 use Rattle.version_range.proofs.laws.relaxed_twice.Goals as goal
 
 pub returns-clause-newer_first : goal.returns-clause-newer_first

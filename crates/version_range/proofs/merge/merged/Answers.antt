@@ -1,4 +1,4 @@
-use Rattle.version_range.proofs.Ends.{merges_turn, first_left, second_left}
+use Rattle.version_range.proofs.RisingEnds.{merges_turn, first_left, second_left}
 use Rattle.version_range.proofs.merge.merged.Goals as goal
 
 pub take_least-requires-clause-first_rises : goal.take_least-requires-clause-first_rises

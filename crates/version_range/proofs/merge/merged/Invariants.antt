@@ -1,5 +1,5 @@
 use Rattle.std.proofs.Common.{◌+◌, length}
-use Rattle.version_range.proofs.Ends.{Merges}
+use Rattle.version_range.proofs.RisingEnds.{Merges}
 use Rattle.version_range.proofs.merge.merged.Given as goal
 
 abbrev pub invariant-loop-least : goal.invariant-loop-least

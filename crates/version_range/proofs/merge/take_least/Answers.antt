@@ -1,5 +1,5 @@
 use Rattle.std.proofs.Common.{◌<◌, length, sym, rules}
-use Rattle.version_range.proofs.Ends.{first_taken, second_taken, both_taken}
+use Rattle.version_range.proofs.RisingEnds.{first_taken, second_taken, both_taken}
 use Rattle.version_range.proofs.merge.take_least.Goals as goal
 
 pub returns-in_ok-pop_front-in-Less-clause-some : goal.returns-in_ok-pop_front-in-Less-clause-some

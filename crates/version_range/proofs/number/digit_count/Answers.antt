@@ -1,7 +1,7 @@
 use Rattle.std.proofs.Common.{sym, ap, ◌∙◌, take, get_or}
 use Rattle.std.specs.Str.{all_ascii_digits}
 use Rattle.std.proofs.lemmas.List.{take_more}
-use Rattle.version_range.proofs.Numbers.{all_push}
+use Rattle.version_range.proofs.VersionNumbers.{all_push}
 use Rattle.version_range.proofs.number.digit_count.Goals as goal
 
 pub loop-i-preserved : goal.loop-i-preserved

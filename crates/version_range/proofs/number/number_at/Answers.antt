@@ -3,7 +3,7 @@ use Rattle.std.specs.Str.{all_ascii_digits}
 use Rattle.std.proofs.lemmas.List.{take-append-drop}
 use Rattle.std.proofs.lemmas.Bool.{false≢true}
 use Rattle.version_range.specs.Version.{begins_with_digit}
-use Rattle.version_range.proofs.Numbers.{is_number, not_number}
+use Rattle.version_range.proofs.VersionNumbers.{is_number, not_number}
 use Rattle.version_range.proofs.number.number_at.Goals as goal
 
 pub returns-then-is_number-clause-found : goal.returns-then-is_number-clause-found

@@ -1,5 +1,5 @@
 use Rattle.std.proofs.Common.{◌<◌, ◌^◌, arith}
-use Rattle.version_range.proofs.Numbers.{number_step, number_small, digit_here}
+use Rattle.version_range.proofs.VersionNumbers.{number_step, number_small, digit_here}
 use Rattle.version_range.proofs.number.number_of.Goals as goal
 
 pub loop-b-preserved : goal.loop-b-preserved

@@ -1,4 +1,4 @@
-use Rattle.version_range.proofs.Versions.{number_given, number_missing}
+use Rattle.version_range.proofs.VersionReaders.{number_given, number_missing}
 use Rattle.version_range.proofs.read.number_due.Goals as goal
 
 pub returns-in-Some-clause-gives : goal.returns-in-Some-clause-gives

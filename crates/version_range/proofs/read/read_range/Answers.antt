@@ -1,4 +1,4 @@
-use Rattle.version_range.proofs.Exact.{range_found, versions_found, fault_found, only_range, only_fault}
+use Rattle.version_range.proofs.OneRange.{range_found, versions_found, fault_found, only_range, only_fault}
 use Rattle.version_range.proofs.read.read_range.Goals as goal
 
 pub returns-clause-range : goal.returns-clause-range

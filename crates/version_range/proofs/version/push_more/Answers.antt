@@ -1,6 +1,6 @@
 use Rattle.std.proofs.Common.{◌++◌, get_or, ap, ◌∙◌}
 use Rattle.std.specs.Fmt.{decimal}
-use Rattle.version_range.proofs.Numbers.{led_step}
+use Rattle.version_range.proofs.VersionNumbers.{led_step}
 use Rattle.version_range.proofs.version.push_more.Goals as goal
 
 pub loop-part-preserved : goal.loop-part-preserved

@@ -2,7 +2,7 @@ use Rattle.std.proofs.Common.{◌++◌, sym, ap, ◌∙◌, append_assoc}
 use Rattle.std.specs.Fmt.{decimal}
 use Rattle.std.proofs.lemmas.Result.{on_ok_weaker}
 use Rattle.version_range.specs.Version.{version_text, led_by_points}
-use Rattle.version_range.proofs.Numbers.{text_led}
+use Rattle.version_range.proofs.VersionNumbers.{text_led}
 use Rattle.version_range.proofs.version.push_version.Goals as goal
 
 pub returns-in_ok-push_number-in-Some : goal.returns-in_ok-push_number-in-Some

@@ -2,7 +2,7 @@ use Rattle.std.proofs.Common.{◌≡◌, [], refl, sym, ap, ◌∙◌, length}
 use Rattle.std.specs.Prelude.{nat_eq}
 use Rattle.std.proofs.lemmas.Bool.{eqb-true, false≢true}
 use Rattle.std.proofs.lemmas.List.{nil_from_length}
-use Rattle.version_range.proofs.Numbers.{refused_number, refused_other, read_last, read_more, only_version, version_from, version_to}
+use Rattle.version_range.proofs.VersionNumbers.{refused_number, refused_other, read_last, read_more, only_version, version_from, version_to}
 use Rattle.version_range.proofs.version.read_version.Goals as goal
 
 pub returns-then-is_empty-clause-found : goal.returns-then-is_empty-clause-found

@@ -1,7 +1,7 @@
 use Rattle.std.proofs.Common.{◌≡◌, ◌++◌, length}
 use Rattle.std.specs.List.{AllByRecursion}
 use Rattle.version_range.specs.Version.{IsNumber}
-use Rattle.version_range.proofs.Numbers.{pointed}
+use Rattle.version_range.proofs.VersionNumbers.{pointed}
 use Rattle.version_range.proofs.version.read_version.Given as goal
 
 abbrev pub invariant-loop-number : goal.invariant-loop-number

@@ -3,7 +3,7 @@ use Rattle.std.specs.Prelude.{Contains}
 use Rattle.std.proofs.lemmas.Bool.{cases_eq}
 use Rattle.build_order.specs.Building.{NoNode}
 use Rattle.common_laws.specs.Lists.{contains-none}
-use Rattle.build_order.proofs.Kept.{same, begins, settled}
+use Rattle.build_order.proofs.OrderInvariant.{same, begins, settled}
 use Rattle.build_order.proofs.building.Building.new.Goals as goal
 
 pub loop-node-init : goal.loop-node-init

@@ -4,7 +4,7 @@ use Rattle.std.proofs.lemmas.List.Elements.{Contains-append_left, Contains-push,
 use Rattle.build_order.specs.declared.building.Wait.{Wait}
 use Rattle.build_order.specs.Building.{IsMetBefore, NoNode}
 use Rattle.common_laws.specs.Lists.{contains-none}
-use Rattle.build_order.proofs.Kept.{IsIn, same, settled, marked_keeps, marked_met, less_left}
+use Rattle.build_order.proofs.OrderInvariant.{IsIn, same, settled, marked_keeps, marked_met, less_left}
 use Rattle.build_order.proofs.building.Building.place.Goals as goal
 
 pub loop-wait-init : goal.loop-wait-init

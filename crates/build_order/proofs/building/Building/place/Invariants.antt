@@ -2,7 +2,7 @@ use Rattle.std.proofs.Common.{◌≡◌, true, length, set}
 use Rattle.std.specs.Prelude.{Contains}
 use Rattle.build_order.specs.declared.building.Wait.{Wait}
 use Rattle.build_order.specs.Building.{IsSound, IsMetBefore}
-use Rattle.build_order.proofs.Kept.{IsIn}
+use Rattle.build_order.proofs.OrderInvariant.{IsIn}
 use Rattle.build_order.proofs.building.Building.place.Given as goal
 
 abbrev pub invariant-loop-wait : goal.invariant-loop-wait

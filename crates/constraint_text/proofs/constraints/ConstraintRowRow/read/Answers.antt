@@ -1,6 +1,6 @@
 use Rattle.std.proofs.Common.{Err, ap, ◌∙◌, sym}
 use Rattle.std.proofs.lemmas.Result.{err_from_is_err_and}
-use Rattle.entry_text.proofs.Found.{err_so, refuses_so}
+use Rattle.entry_text.proofs.FoundEntries.{err_so, refuses_so}
 use Rattle.constraint_text.proofs.OneConstraint.{bad_target, bad_what, constraint_entry}
 use Rattle.constraint_text.proofs.constraints.ConstraintRowRow.read.Goals as goal
 

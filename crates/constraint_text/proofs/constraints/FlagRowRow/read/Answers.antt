@@ -1,5 +1,5 @@
 use Rattle.constraint_text.specs.Constraints.{on, off}
-use Rattle.entry_text.proofs.Found.{ok_so}
+use Rattle.entry_text.proofs.FoundEntries.{ok_so}
 use Rattle.constraint_text.proofs.constraints.FlagRowRow.read.Goals as goal
 
 pub returns-in-Some-clause-found : goal.returns-in-Some-clause-found

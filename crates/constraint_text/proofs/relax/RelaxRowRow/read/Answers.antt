@@ -1,6 +1,6 @@
 use Rattle.std.proofs.Common.{ap, ◌∙◌, sym}
-use Rattle.entry_text.proofs.Cuts.{texts}
-use Rattle.entry_text.proofs.Found.{ok_so, fault_so}
+use Rattle.entry_text.proofs.CommaCuts.{texts}
+use Rattle.entry_text.proofs.FoundEntries.{ok_so, fault_so}
 use Rattle.constraint_text.proofs.relax.RelaxRowRow.read.Goals as goal
 
 pub returns-clause-found : goal.returns-clause-found

@@ -2,7 +2,7 @@ use Rattle.std.proofs.Common.{◌∙◌, ap}
 use Rattle.std.specs.List.{list_all}
 use Rattle.index_files.specs.Units.{is_well_formed, unit_id}
 use Rattle.index_files.proofs.Joined.{put-new}
-use Rattle.index_files.proofs.Put.{all-last}
+use Rattle.index_files.proofs.AddedNames.{all-last}
 use Rattle.index_files.proofs.units.Units.with.Goals as goal
 
 pub invariant_of-result : goal.invariant_of-result

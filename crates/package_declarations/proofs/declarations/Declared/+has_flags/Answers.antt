@@ -1,6 +1,6 @@
 use Rattle.std.proofs.Common.{◌≤◌, ◌∙◌, ap, sym, subst, arith}
 use Rattle.plan_types.specs.declared.condition.Cond.{size-Cond}
-use Rattle.conditionals.proofs.Layers.{below_Not, below_And, below_Or}
+use Rattle.conditionals.proofs.ConditionLayers.{below_Not, below_And, below_Or}
 use Rattle.package_declarations.specs.Declarations.{has_flags}
 use Rattle.stanza_imports.specs.Names.{has}
 use Rattle.package_declarations.proofs.FlagFolds as flagged

@@ -1,6 +1,6 @@
 use Rattle.std.proofs.Common.{sym, ap, ◌∙◌, arith}
 use Rattle.plan_types.specs.declared.condition.Cond.TheVariants.{And}
-use Rattle.conditionals.proofs.Layers.{below_And}
+use Rattle.conditionals.proofs.ConditionLayers.{below_And}
 use Rattle.plan_components.proofs.Conditions.{last-decides, others-decide}
 use Rattle.plan_components.proofs.chosen.Chosen.+condition_holds.Goals as goal
 

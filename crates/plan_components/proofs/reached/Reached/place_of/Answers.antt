@@ -1,5 +1,5 @@
 use Rattle.std.proofs.Common.{sym, ◌∙◌}
-use Rattle.plan_components.proofs.Nodes.{no_place}
+use Rattle.plan_components.proofs.SameNodes.{no_place}
 use Rattle.plan_components.proofs.reached.Reached.place_of.Goals as goal
 
 pub returns-in-None : goal.returns-in-None

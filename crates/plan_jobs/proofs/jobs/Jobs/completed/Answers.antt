@@ -9,7 +9,7 @@ use Rattle.plan_jobs.specs.Events.{IsReportReply, completes}
 use Rattle.plan_jobs.specs.Board.{AreAfter, AreReady, Keeps, state_at, times}
 use Rattle.plan_jobs.proofs.Changes.{complete_keeps, less_open, ready_now, begun_now, here}
 use Rattle.plan_jobs.proofs.Spread.{users_within}
-use Rattle.plan_jobs.proofs.Told.{after_completion, after_no_completion, runs_from, runs_to}
+use Rattle.plan_jobs.proofs.NextStates.{after_completion, after_no_completion, runs_from, runs_to}
 use Rattle.plan_jobs.proofs.jobs.Jobs.completed.Goals as goal
 
 pub returns-in_err-place-clause-reply : goal.returns-in_err-place-clause-reply

@@ -6,7 +6,7 @@ use Rattle.plan_jobs.specs.declared.job.JobState.TheVariants.{Running, Failed}
 use Rattle.plan_jobs.specs.Events.{IsReportReply, fails}
 use Rattle.plan_jobs.specs.Board.{AreAfter, AreBegun, MarksMore, Keeps, state_at}
 use Rattle.plan_jobs.proofs.Changes.{fail_keeps, begun_now}
-use Rattle.plan_jobs.proofs.Told.{after_failure, after_no_failure, runs_from, runs_to}
+use Rattle.plan_jobs.proofs.NextStates.{after_failure, after_no_failure, runs_from, runs_to}
 use Rattle.plan_jobs.proofs.jobs.Jobs.failed.Goals as goal
 
 pub returns-in_err-place-clause-reply : goal.returns-in_err-place-clause-reply

@@ -5,7 +5,7 @@ use Rattle.plan_jobs.specs.declared.job.JobState.TheVariants.{Running}
 use Rattle.plan_jobs.specs.Events.{IsStart, starts}
 use Rattle.plan_jobs.specs.Board.{AreAfter, Keeps}
 use Rattle.plan_jobs.proofs.Changes.{start_keeps}
-use Rattle.plan_jobs.proofs.Told.{after_no_start, after_start}
+use Rattle.plan_jobs.proofs.NextStates.{after_no_start, after_start}
 use Rattle.plan_jobs.proofs.Replies.{least_in, none_in, running_in, slots_in}
 use Rattle.plan_jobs.proofs.jobs.Jobs.start_next.Goals as goal
 

@@ -1,7 +1,7 @@
 use Rattle.std.proofs.Common.{◌≡◌, ◌<◌, List, get_or, subst, ap, ◌∙◌}
 use Rattle.plan_jobs.specs.declared.job.JobState.{JobState}
 use Rattle.plan_jobs.specs.declared.job.JobState.TheVariants.{Waiting}
-use Rattle.plan_jobs.proofs.Told.{after_count, after_state}
+use Rattle.plan_jobs.proofs.NextStates.{after_count, after_state}
 use Rattle.plan_jobs.proofs.jobs.Jobs.state_of.Goals as goal
 
 pub returns : goal.returns

@@ -1,7 +1,7 @@
 use Rattle.std.proofs.Common.{◌++◌, [], ◌∷◌, List, ap, ◌∙◌, sym}
 use Rattle.plan_types.specs.Conditions.{cond_of, conds_of}
 use Rattle.plan_types.specs.declared.condition.Cond.{Cond}
-use Rattle.plan_types.proofs.Tables.{pushed-row}
+use Rattle.plan_types.proofs.ConditionTables.{pushed-row}
 use Rattle.plan_types.proofs.conditions.Conditions.push.Goals as goal
 
 pub invariant_of-self-in-Ok : goal.invariant_of-self-in-Ok

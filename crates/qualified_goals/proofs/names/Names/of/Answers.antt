@@ -1,6 +1,6 @@
 use Rattle.std.proofs.Common.{◌∙◌, ap}
 use Rattle.qualified_goals.specs.Names.{flag_names, is_listed, package_names}
-use Rattle.qualified_goals.proofs.Numbers.{goal-order}
+use Rattle.qualified_goals.proofs.NameNumbers.{goal-order}
 use Rattle.qualified_goals.proofs.names.Names.of.Goals as goal
 
 pub returns-clause-names : goal.returns-clause-names

@@ -4,7 +4,7 @@ use Rattle.std.proofs.lemmas.List.Sorted.{IsPartitionPoint-from_clause}
 use Rattle.std.proofs.lemmas.Bool.{and_parts}
 use Rattle.plan_types.specs.Members.{order}
 use Rattle.version_range.specs.Cuts.{rises, all_above, no_numbers, inside}
-use Rattle.version_range.proofs.Ends.{reached_first, inside_by_count}
+use Rattle.version_range.proofs.RisingEnds.{reached_first, inside_by_count}
 use Rattle.version_range.proofs.cuts.Cuts.has.Goals as goal
 
 pub returns : goal.returns

@@ -1,7 +1,7 @@
 use Rattle.std.proofs.Common.{length, ap, sym, ◌∙◌}
 use Rattle.std.proofs.lemmas.Bool.{eqb-true, eq-eqb}
 use Rattle.std.proofs.lemmas.List.{nil_from_length}
-use Rattle.version_range.proofs.Ends.{empty_when}
+use Rattle.version_range.proofs.RisingEnds.{empty_when}
 use Rattle.version_range.proofs.cuts.Cuts.is_empty.Goals as goal
 
 pub returns : goal.returns

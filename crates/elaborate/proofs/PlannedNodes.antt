@@ -1,0 +1,129 @@
+-- Shared: the sorted nodes are those of the plan that have lines, and their graph is that of the definition.
+use Rattle.std.proofs.Common.{◌≡◌, ◌≢◌, ◌<◌, ℕ, true, List, [], ◌∷◌, map, length, Option, refl, sym, ap, ◌∙◌, subst}
+use Rattle.std.specs.Prelude.{All, AllPairs, Contains, Decides}
+use Rattle.std.specs.Bool.{one_answer}
+use Rattle.std.specs.List.Sorted.{IsPermutation, IsSorted}
+use Rattle.std.proofs.lemmas.List.{length-map}
+use Rattle.std.proofs.lemmas.List.Elements.{Contains-get_or}
+use Rattle.std.proofs.lemmas.List.Sorted.{Contains-permutation, IsPermutation-map, IsPermutation-sym}
+use Rattle.std.proofs.lemmas.Map.Keys.{IsDistinct-IsPermutation}
+use Rattle.std.proofs.lemmas.Map.Made.{AllPairs-from_IsDistinct, IsDistinct-from_AllPairs}
+use Rattle.build_order.proofs.PlacedNodes.{all_within}
+use Rattle.build_order.specs.Order.{IsBuildOrder}
+use Rattle.common_laws.specs.Graphs.{IsGraph}
+use Rattle.common_laws.specs.Lists.{all-where, contains-head, contains-map, contains-tail, map-contains}
+use Rattle.plan_nodes.specs.declared.node.PlanNode.{PlanNode}
+use Rattle.plan_components.specs.declared.node.Need.{Need}
+use Rattle.plan_components.specs.declared.node.Node.{Node}
+use Rattle.plan_components.specs.declared.reached.Reached.{Reached}
+use Rattle.plan_components.specs.Chosen.{Selection}
+use Rattle.plan_components.specs.Needs.{needs_of}
+use Rattle.plan_components.specs.Plan.{AreReached, needed}
+use Rattle.plan_components.specs.SameNode.{node-is, node-self, place_of, same_node}
+use Rattle.plan_components.specs.Steps.{no_node}
+use Rattle.node_lines.specs.Lines.{AreLines, HasLine, told}
+use Rattle.node_lines.specs.Numbers.{row_of}
+use Rattle.node_lines.proofs.NodePlaces.{at_place, row_at, stands}
+use Rattle.elaborate.specs.declared.told.Told.{Told}
+use Rattle.elaborate.specs.Plan.{AreRanked, graph_of, nodes_of}
+use Rattle.elaborate.specs.Ranks.{needs_at, rank_of, ranked_row, ranks_after}
+use Rattle.elaborate.specs.Telling.{told_in}
+use Rattle.elaborate.specs.Told.{told_cmp}
+use Rattle.elaborate.proofs.Members.{beside, once_told, told_at}
+use Rattle.elaborate.proofs.Ranking.{rank_is}
+
+decides : (m n : Node) → Decides (same_node m n) (m ≡ n)
+decides m n = (node-is m n, λ e. subst (λ k. same_node m k ≡ true) e (node-self m))
+
+flips : (m n : Node) → same_node m n ≡ same_node n m
+flips m n = one_answer {P = m ≡ n} (same_node m n) (same_node n m) (decides m n) ((λ h. sym ((decides n m).0 h)), (λ e. (decides n m).1 (sym e)))
+
+-- a permutation keeps nodes distinct
+still_once : (ms ns : List Node) → IsPermutation ms ns → AllPairs (λ a b. a ≢ b) ms → AllPairs (λ a b. a ≢ b) ns
+still_once ms ns moved once =
+    AllPairs-from_IsDistinct decides ns (IsDistinct-IsPermutation same_node flips ms ns moved (IsDistinct-from_AllPairs decides ms once))
+
+-- each need of a node with a line has a line
+need_line : (selection : Selection) (node : Node) (line : PlanNode) → HasLine selection node line
+    → (need : Need) → Contains (needs_of selection node) need → (l : PlanNode) × HasLine selection need.node l
+need_line selection node line (told n l line_at each is) need c = (line_at need.node, each need c)
+
+map-on : {X Y : Type 0} (f g : X → Y) (xs : List X) → ((x : X) → Contains xs x → f x ≡ g x) → map f xs ≡ map g xs
+map-on f g [] h = refl
+map-on f g (x ∷ xs) h = ap (λ y. y ∷ map f xs) (h x (contains-head x xs)) ∙ ap (λ l. g x ∷ l) (map-on f g xs (λ y c. h y (contains-tail x xs y c)))
+
+module _ (selection : Selection) (reached : Reached) (are : AreReached selection reached) (lines : List (Option PlanNode))
+    (have : AreLines selection reached.set.keys lines) (all : List Told) (moved : IsPermutation (told_in reached.set.keys lines) all)
+    (sorted : IsSorted told_cmp all) where
+  abbrev keys : List Node
+  keys = reached.set.keys
+
+  abbrev before : List Told
+  before = told_in keys lines
+
+  back : (t : Told) → Contains all t → Contains before t
+  back t c = Contains-permutation all before t (IsPermutation-sym before all moved) c
+
+  reached_node : (t : Told) → Contains all t → Contains keys t.node
+  reached_node t c = let b = beside keys lines t (back t c) in subst (Contains keys) b.node (Contains-get_or keys b.place no_node b.within)
+
+  pub ranked : AreRanked selection all
+  ranked = record {
+    once = still_once (nodes_of before) (nodes_of all) (IsPermutation-map (λ (t : Told). t.node) before all moved) (once_told keys lines are.once);
+    sorted = sorted;
+    inside = λ t c. (are.each t.node).0 (reached_node t c);
+    lines = λ t c.
+        let b = beside keys lines t (back t c) in
+        subst (λ n. HasLine selection n t.line) b.node ((have.each b.place t.line b.within).0 b.line);
+    whole = λ t plan line.
+        let at = stands selection reached are t.node plan in
+        Contains-permutation before all t moved
+        (told_at keys lines t (place_of keys t.node) at.within at.is ((have.each (place_of keys t.node) t.line at.within).1 (subst (λ n. HasLine selection n t.line) (sym at.is) line)));
+  }
+
+  -- the needs of these nodes are among them
+  need_told : (t : Told) → Contains all t → (need : Need) → Contains (needs_of selection t.node) need → Contains (nodes_of all) need.node
+  need_told t c need k =
+      let line = need_line selection t.node t.line (ranked.lines t c) need k in
+      map-contains (λ (u : Told). u.node) all (record { node = need.node; line = line.0 })
+      (ranked.whole (record { node = need.node; line = line.0 })
+      (needed t.node need.node (ranked.inside t c) (map-contains (λ (n : Need). n.node) (needs_of selection t.node) need k)) line.1)
+
+  are_among : (m : Node) → Contains (nodes_of all) m → Contains keys m
+  are_among m c = let from = contains-map (λ (t : Told). t.node) all m c in subst (Contains keys) from.2 (reached_node from.0 from.1)
+
+  needs_are : (t : Told) → Contains all t → needs_at reached t.node ≡ needs_of selection t.node
+  needs_are t c =
+      let at = at_place keys t.node (reached_node t c) in
+      row_at selection reached are (place_of keys t.node) at.within ∙ ap (needs_of selection) at.is
+
+  row_is : (t : Told) → Contains all t → ranked_row reached (ranks_after keys all) t ≡ row_of (nodes_of all) (needs_of selection t.node)
+  row_is t c =
+      ap (map (λ (n : Need). rank_of reached (ranks_after keys all) n.node)) (needs_are t c)
+      ∙ map-on (λ (n : Need). rank_of reached (ranks_after keys all) n.node) (λ (n : Need). place_of (nodes_of all) n.node) (needs_of selection t.node)
+      (λ need k. rank_is keys all need.node are_among ranked.once (need_told t c need k))
+
+  pub graph_is : map (ranked_row reached (ranks_after keys all)) all ≡ graph_of selection all
+  graph_is = map-on (ranked_row reached (ranks_after keys all)) (λ (t : Told). row_of (nodes_of all) (needs_of selection t.node)) all row_is
+
+  pub graph_count : length (graph_of selection all) ≡ length all
+  graph_count = length-map all (λ (t : Told). row_of (nodes_of all) (needs_of selection t.node))
+
+  within : (row : List ℕ) → Contains (graph_of selection all) row → (v : ℕ) → Contains row v → v < length (graph_of selection all)
+  within row c v k =
+      let t = contains-map (λ (t : Told). row_of (nodes_of all) (needs_of selection t.node)) all row c in
+      let need = contains-map (λ (n : Need). place_of (nodes_of all) n.node) (needs_of selection t.0.node) v (subst (λ r. Contains r v) (sym t.2) k) in
+      let at = at_place (nodes_of all) need.0.node (need_told t.0 t.1 need.0 need.1) in
+      subst (λ n. n < length (graph_of selection all)) need.2
+      (subst (λ n. place_of (nodes_of all) need.0.node < n) (length-map all (λ (u : Told). u.node) ∙ sym graph_count) at.within)
+
+  pub is_graph : IsGraph (graph_of selection all)
+  is_graph = all-where (All (λ v. v < length (graph_of selection all))) (graph_of selection all) (λ row c. all-where (λ v. v < length (graph_of selection all)) row (within row c))
+
+  -- the graph made by ranks is that of the definition
+  pub made_graph : (ranks : List ℕ) (graph : List (List ℕ)) → ranks ≡ ranks_after keys all → graph ≡ map (ranked_row reached ranks) all → graph ≡ graph_of selection all
+  made_graph ranks graph ranks_are graph_are = graph_are ∙ ap (λ r. map (ranked_row reached r) all) ranks_are ∙ graph_is
+
+  -- a build order has places of these nodes only
+  pub places_within : (places : List ℕ) → IsBuildOrder (graph_of selection all) places → All (λ place. place < length all) places
+  places_within places build = subst (λ n. All (λ place. place < n) places) graph_count (all_within (graph_of selection all) places build)
