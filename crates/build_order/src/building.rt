@@ -166,7 +166,8 @@ fn no_waits(alloc: Global, nodes: usize) -> Result<Vec<List<Wait>>, NoMemory>
 // The place of the first need from a place on that isn't placed.
 fn first_unmet(needs: &[usize], placed: &[bool], from: usize) -> Option<usize>
     requires { All (λ v. v < length placed.now) needs.now }
-    ensures { MatchOption result (AreMet needs.now placed.now from (length needs.now)) (IsFirstUnmet needs.now placed.now from) }
+    ensures { MatchOption result (AreMet needs.now placed.now from (length needs.now))
+        (IsFirstUnmet needs.now placed.now from) }
 {
     for place in from..needs.len() {
         if !placed[needs[place]] {

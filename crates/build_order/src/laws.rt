@@ -15,6 +15,7 @@ pub fn each_behind_its_needs()
 
 /// Without a cycle, every node is placed.
 pub fn every_node_is_placed()
-    ensures { (needs : List (List ℕ)) (order : List ℕ) → IsGraph needs → HasNoCycle (Needs needs) → IsBuildOrder needs order
+    ensures { (needs : List (List ℕ)) (order : List ℕ) → IsGraph needs → HasNoCycle (Needs needs)
+        → IsBuildOrder needs order
         → HasAll needs order }
 {}

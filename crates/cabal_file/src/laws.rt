@@ -12,7 +12,8 @@ use description::one_outcome;
 
 /// A file has at most one outcome in an environment: its source or its first fault.
 pub fn one_source()
-    ensures { (env : Env) (bytes : List ℕ) (a b : Result Source At) → IsSource env bytes a → IsSource env bytes b → a ≡ b }
+    ensures { (env : Env) (bytes : List ℕ) (a b : Result Source At) → IsSource env bytes a → IsSource env bytes b
+        → a ≡ b }
 {
     one_tree();
     one_fault();

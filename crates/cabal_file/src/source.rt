@@ -99,7 +99,8 @@ fn source_of_tree(
 
 fn source_of(alloc: Global, description: Description, env: &Env) -> Result<Source, Fault>
     ensures source { IfOk result (λ source. OfDescription env.now (Ok description) (Ok source)) }
-    ensures fault { IfErr result (RefusesAt (λ line cause. OfDescription env.now (Ok description) (Err (is_at line cause)))) }
+    ensures fault { IfErr result (RefusesAt
+        (λ line cause. OfDescription env.now (Ok description) (Err (is_at line cause)))) }
 {
     let flat = demands_of(alloc, &description, env)?;
     let exposed = exposed(alloc, &description, env)?;

@@ -42,7 +42,8 @@ fn program<R: AllocGlobal, F: Folder, S: Sink, E: Sink>(
     errors: &mut E,
 ) -> ExitCode
     ensures { IsExit (λ args. map string_bytes (into_iter_items args)) F.tells F.faults args folder.old folder.new
-        (taken S.bytes S.faults out.old) (taken S.bytes S.faults out.new) (taken E.bytes E.faults errors.old) (taken E.bytes E.faults errors.new)
+        (taken S.bytes S.faults out.old) (taken S.bytes S.faults out.new) (taken E.bytes E.faults errors.old)
+        (taken E.bytes E.faults errors.new)
         (exit_status result) }
 {
     let status = status_of(rt.alloc(), args, folder, out);
@@ -107,7 +108,8 @@ fn planned<F: Folder, S: Sink>(
     folder: &mut F,
     out: &mut S,
 ) -> Status
-    ensures { IsRunOver F.tells F.faults words.now folder.old folder.new (taken S.bytes S.faults out.old) (taken S.bytes S.faults out.new) result }
+    ensures { IsRunOver F.tells F.faults words.now folder.old folder.new (taken S.bytes S.faults out.old)
+        (taken S.bytes S.faults out.new) result }
 {
     run(alloc, words.as_slice(), folder, out)
 }

@@ -180,7 +180,8 @@ impl<'a> CabalProblem<'a> {
         decl: &FlagDecl,
         number: u64,
     ) -> Result<(), NoMemory>
-        ensures { OnOk result (found.new ≡ found.old ++ flag_row self.now.settings.now.project self.now.names owner decl.now number) }
+        ensures { OnOk result (found.new ≡ found.old
+            ++ flag_row self.now.settings.now.project self.now.names owner decl.now number) }
     {
         let target = part_beside(owner, Part::Flag(number));
         let when = alone(alloc, owner)?;
@@ -275,7 +276,8 @@ impl<'a> CabalProblem<'a> {
         p: u64,
         trail: &Trail,
     ) -> Result<List<u64>, NoMemory>
-        ensures { IfOk result (λ values. values ≡ with_others (reused trail.now (package_var q p)) (slice_index_or self.now.tables.orders p [])) }
+        ensures { IfOk result (λ values. values
+            ≡ with_others (reused trail.now (package_var q p)) (slice_index_or self.now.tables.orders p [])) }
     {
         let v = package_var(q, p);
         let taken = values_elsewhere(alloc, trail.instances_of(p), v)?;

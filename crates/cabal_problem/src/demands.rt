@@ -102,7 +102,8 @@ pub(crate) fn push_deps(
     owner: Choice,
     deps: &[ConditionalDep],
 ) -> Result<(), NoMemory>
-    ensures { OnOk result (found.new ≡ found.old ++ flat_map (dep_row (has_stanzas packages.now owner.var) owner) deps.now) }
+    ensures { OnOk result (found.new ≡ found.old ++ flat_map
+        (dep_row (has_stanzas packages.now owner.var) owner) deps.now) }
 {
     let stanzas = has_stanzas(packages, owner.var);
     for dep in deps {

@@ -23,7 +23,8 @@ use preferences::one_order;
 pub fn listed_as_whole()
     ensures groups { (env : Env) (index : Index) (project : Project) (names : NameTable) (orders : List (List ℕ))
         → IsSound env index → AreNumbers index.packages names
-        → IsInGroups (whole_problem env index.packages project names orders) (problem_of index.packages project names orders) }
+        → IsInGroups (whole_problem env index.packages project names orders)
+        (problem_of index.packages project names orders) }
     ensures together { (env : Env) (index : Index) (project : Project) (names : NameTable) (orders : List (List ℕ))
         → IsSound env index → AreNumbers index.packages names
         → AreYesTogether (whole_problem env index.packages project names orders)
@@ -38,7 +39,8 @@ pub fn valid_as_whole()
     ensures { (env : Env) (index : Index) (project : Project) (names : NameTable) (orders : List (List ℕ))
         → IsSound env index → AreNumbers index.packages names → AreOrders project index.packages orders
         → list_all (λ named. has_package index named.name) project.extra ≡ true
-        → AreOne (whole_problem env index.packages project names orders) (general (problem_of index.packages project names orders)) }
+        → AreOne (whole_problem env index.packages project names orders)
+        (general (problem_of index.packages project names orders)) }
 {
     listed_as_whole();
     general_is_lawful();

@@ -16,7 +16,8 @@ pub(crate) fn roots_of(
     names: &Names,
     extra: &[Named],
 ) -> Result<List<Demand>, NoMemory>
-    ensures { IfOk result (λ roots. roots ≡ local_roots packages.now ++ map (extra_root packages.now names.now) extra.now) }
+    ensures { IfOk result (λ roots. roots
+        ≡ local_roots packages.now ++ map (extra_root packages.now names.now) extra.now) }
 {
     let mut roots = local_roots(alloc, packages)?;
     for named in extra {

@@ -136,7 +136,8 @@ fn is_package(names: &Names, name: &Text, p: u64) -> bool
 }
 
 fn has_part(packages: &[Package], names: &Names, v: Var) -> bool
-    ensures { result ≡ (nat_lt v.«package» (length packages.now) && is_part names.now v.qual (package_at packages.now v.«package») v.part) }
+    ensures { result ≡ (nat_lt v.«package» (length packages.now) && is_part names.now v.qual
+        (package_at packages.now v.«package») v.part) }
 {
     match packages.get(v.package as usize) {
         Some(found) => is_part(names, v.qual, found, v.part),

@@ -193,7 +193,8 @@ fn options_of(alloc: Global, words: &[Text]) -> Result<Options, NoMemory>
 // The options of words, with no flag set.
 fn plain_options(alloc: Global, matches: &ArgMatches<'_>) -> Result<Options, NoMemory>
     requires { is_compiler (compiler_or (first_value (found_of matches.now) (name_of OptionName.Compiler))) ≡ true }
-    ensures { (words : List (List ℕ)) → Finds words (found_of matches.now) → IfOk result (λ options. options ≡ plain_options words) }
+    ensures { (words : List (List ℕ)) → Finds words (found_of matches.now)
+        → IfOk result (λ options. options ≡ plain_options words) }
 {
     let index = value_of(matches, OptionName::Index);
     let installed = value_of(matches, OptionName::Installed);

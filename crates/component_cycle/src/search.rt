@@ -49,7 +49,8 @@ impl Drop for Search {
 
 impl Search {
     pub(crate) fn new(alloc: Global, nodes: usize) -> Result<Search, NoMemory>
-        ensures { IfOk result (λ s. s ≡ record { states = replicate nodes CycleSearch.Unseen; path = []; waiting = []; marks = [] }) }
+        ensures { IfOk result (λ s. s ≡ record { states = replicate nodes CycleSearch.Unseen; path = []; waiting = [];
+            marks = [] }) }
     {
         Ok(Search {
             states: List::from_vec(vec![in alloc; CycleSearch::Unseen; nodes]?),
@@ -83,7 +84,8 @@ impl Search {
         ensures sound { OnOk result (IsSound needs.now self.new None) }
         ensures marks { OnOk result (self.new.marks ≡ []) }
         ensures root { OnOk result (state self.new root ≢ CycleSearch.Unseen) }
-        ensures seen { OnOk result ((v : ℕ) → state self.old v ≢ CycleSearch.Unseen → state self.new v ≢ CycleSearch.Unseen) }
+        ensures seen { OnOk result ((v : ℕ) → state self.old v ≢ CycleSearch.Unseen
+            → state self.new v ≢ CycleSearch.Unseen) }
     {
         if !self.is_unseen(root) {
             return Ok(());

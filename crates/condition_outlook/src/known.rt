@@ -108,7 +108,8 @@ fn both(
     second: &Facts,
     paths: &Option<List<List<FlagSet>>>,
 ) -> Result<Facts, NoMemory>
-    ensures { IfOk result (λ known. (flags : Flags) → Allows flags first.now → Allows flags second.now → OneHolds flags paths.now
+    ensures { IfOk result (λ known. (flags : Flags) → Allows flags first.now → Allows flags second.now
+        → OneHolds flags paths.now
         → Allows flags known) }
 {
     let (settled, fits) = joined(alloc, &first.settled, &second.settled)?;
@@ -122,7 +123,8 @@ fn both(
 // The settings of both sides, and whether they agree. If both sides are long, only the latest settings of the first are
 // used, at most 64.
 fn joined(alloc: Global, first: &FlagSettings, second: &FlagSettings) -> Result<(FlagSettings, bool), NoMemory>
-    ensures { IfOk result (λ both. (flags : Flags) → AreSet flags first.now → AreSet flags second.now → AreSet flags both.0 × IsTrue both.1) }
+    ensures { IfOk result (λ both. (flags : Flags) → AreSet flags first.now → AreSet flags second.now
+        → AreSet flags both.0 × IsTrue both.1) }
 {
     if second.is_short() {
         added(alloc, first, second)
@@ -132,7 +134,8 @@ fn joined(alloc: Global, first: &FlagSettings, second: &FlagSettings) -> Result<
 }
 
 fn added(alloc: Global, long: &FlagSettings, short: &FlagSettings) -> Result<(FlagSettings, bool), NoMemory>
-    ensures { IfOk result (λ both. (flags : Flags) → AreSet flags long.now → AreSet flags short.now → AreSet flags both.0 × IsTrue both.1) }
+    ensures { IfOk result (λ both. (flags : Flags) → AreSet flags long.now → AreSet flags short.now
+        → AreSet flags both.0 × IsTrue both.1) }
 {
     let mut settled = long.copy(alloc)?;
     let fits = settled.add(alloc, short.recent())?;

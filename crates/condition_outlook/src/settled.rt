@@ -89,8 +89,10 @@ impl FlagSettings {
 
     /// Adds settings. Returns false at the first that contradicts a known one.
     pub fn add(&mut self, alloc: Global, settings: &[FlagSet]) -> Result<bool, NoMemory>
-        ensures learnt { OnOk result ((flags : Flags) → AreSet flags self.old → holds flags settings.now ≡ true → AreSet flags self.new) }
-        ensures fits { IfOk result (λ fits. (flags : Flags) → AreSet flags self.old → holds flags settings.now ≡ true → IsTrue fits) }
+        ensures learnt { OnOk result ((flags : Flags) → AreSet flags self.old → holds flags settings.now ≡ true
+            → AreSet flags self.new) }
+        ensures fits { IfOk result (λ fits. (flags : Flags) → AreSet flags self.old → holds flags settings.now ≡ true
+            → IsTrue fits) }
     {
         for setting in settings {
             match self.get(&setting.name) {
@@ -106,7 +108,8 @@ impl FlagSettings {
     }
 
     fn push(&mut self, alloc: Global, setting: &FlagSet) -> Result<(), NoMemory>
-        ensures { OnOk result ((flags : Flags) → AreSet flags self.old → flags setting.now.name ≡ Some setting.now.on → AreSet flags self.new) }
+        ensures { OnOk result ((flags : Flags) → AreSet flags self.old → flags setting.now.name ≡ Some setting.now.on
+            → AreSet flags self.new) }
     {
         if self.recent.len() == MOST_RECENT {
             self.share(alloc)?;
@@ -197,7 +200,8 @@ fn map_of(alloc: Global, settings: &[FlagSet]) -> Result<BTreeMap<Text, bool>, N
 }
 
 fn add_all(map: &mut BTreeMap<Text, bool>, more: &BTreeMap<Text, bool>) -> Result<(), NoMemory>
-    ensures { OnOk result ((flags : Flags) → HaveEntries flags (map.old ∷ more.now ∷ []) → HaveEntries flags (map.new ∷ [])) }
+    ensures { OnOk result ((flags : Flags) → HaveEntries flags (map.old ∷ more.now ∷ [])
+        → HaveEntries flags (map.new ∷ [])) }
 {
     for (name, on) in more.iter() {
         map.insert(name.copy()?, *on)?;

@@ -66,21 +66,24 @@ impl Constraints {
 
     /// Whether an instance of the package of a variable may not be chosen.
     pub fn bars(&self, v: Var, instance: &Instance) -> bool
-        ensures { (project : Project) (names : NameTable) → Represents project names self.now → result ≡ bars project names v instance.now }
+        ensures { (project : Project) (names : NameTable) → Represents project names self.now
+            → result ≡ bars project names v instance.now }
     {
         self.rules_bar(v, instance) || self.is_boot(instance)
     }
 
     /// Whether a flag or a stanza may not have this value.
     pub fn bars_part(&self, v: Var, on: bool) -> bool
-        ensures { (project : Project) (names : NameTable) → Represents project names self.now → result ≡ bars_part project names v on }
+        ensures { (project : Project) (names : NameTable) → Represents project names self.now
+            → result ≡ bars_part project names v on }
     {
         self.is_asked(v, !on) || (self.requires_stanza(v.part) && !on)
     }
 
     /// Whether some constraint on the package of a variable, whatever its scope, requires this value of the flag.
     pub fn names_flag(&self, v: Var, on: bool) -> bool
-        ensures { (project : Project) (names : NameTable) → Represents project names self.now → result ≡ names_flag project names v on }
+        ensures { (project : Project) (names : NameTable) → Represents project names self.now
+            → result ≡ names_flag project names v on }
     {
         self.is_named(v, on)
     }
@@ -95,7 +98,8 @@ impl Constraints {
     ) -> Result<Cuts, NoMemory>
         requires { has_versions range.now ≡ true }
         ensures { (project : Project) (names : NameTable) → Represents project names self.now →
-            IfOk result (λ cuts. Relaxes (relaxes project.newer owner.now dep.now) (relaxes project.older owner.now dep.now)
+            IfOk result (λ cuts. Relaxes (relaxes project.newer owner.now dep.now)
+            (relaxes project.older owner.now dep.now)
             (members range.now) (inside cuts)) }
     {
         let newer = self.newer.relaxes(owner, dep);
@@ -107,7 +111,8 @@ impl Constraints {
     }
 
     fn rules_bar(&self, v: Var, instance: &Instance) -> bool
-        ensures { result ≡ list_any (rule_bars v.qual instance.now) (items_at nat_eq self.now.rules.packages v.«package») }
+        ensures { result ≡ list_any (rule_bars v.qual instance.now)
+            (items_at nat_eq self.now.rules.packages v.«package») }
     {
         items_at(&self.rules.packages, &v.package)
             .iter()
@@ -115,7 +120,8 @@ impl Constraints {
     }
 
     fn is_boot(&self, instance: &Instance) -> bool
-        ensures { result ≡ (is_listed boot_libraries instance.now.name && not (is_unit instance.now.origin) && not self.now.boot_installs) }
+        ensures { result ≡ (is_listed boot_libraries instance.now.name && not (is_unit instance.now.origin)
+            && not self.now.boot_installs) }
     {
         is_boot_library(instance.name.as_str()) && !is_unit(instance) && !self.boot_installs
     }

@@ -128,7 +128,8 @@ impl Rules {
         constraint: &Constraint,
     ) -> Result<(), NoMemory>
         ensures packages { OnOk result (AddsRules self.old self.new (λ p. rules_on names.now p constraint.now)) }
-        ensures parts { OnOk result (AddsSettings self.old self.new (λ p part. settings_on names.now p part constraint.now)) }
+        ensures parts { OnOk result (AddsSettings self.old self.new
+            (λ p part. settings_on names.now p part constraint.now)) }
     {
         match names.package(&constraint.package) {
             Some(package) => self.add(alloc, names, package, constraint),
@@ -143,7 +144,8 @@ impl Rules {
         package: u64,
         constraint: &Constraint,
     ) -> Result<(), NoMemory>
-        ensures packages { OnOk result (AddsRules self.old self.new (at_package «package» (rules_of names.now constraint.now))) }
+        ensures packages { OnOk result (AddsRules self.old self.new
+            (at_package «package» (rules_of names.now constraint.now))) }
         ensures parts { OnOk result (AddsSettings self.old self.new
             (λ p part. at_package «package» (settings_of names.now part constraint.now) p)) }
     {
@@ -184,7 +186,8 @@ impl Rules {
         on: bool,
     ) -> Result<(), NoMemory>
         ensures packages { OnOk result (self.new.packages ≡ self.old.packages) }
-        ensures parts { OnOk result (AddsSettings self.old self.new (at_part «package» part (record { scope = scope; on = on }))) }
+        ensures parts { OnOk result (AddsSettings self.old self.new
+            (at_part «package» part (record { scope = scope; on = on }))) }
     {
         let key = PartOf { package, part };
         let setting = PartRule { scope, on };

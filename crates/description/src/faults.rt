@@ -69,7 +69,8 @@ fn in_head(field: &HeadField) -> Option<At>
 }
 
 fn in_sections(sections: &[Section], declared: &Declared) -> Option<At>
-    ensures { (file : File) → RepresentsNames declared.now file → result ≡ first (flat_map (in_section file) sections.now) }
+    ensures { (file : File) → RepresentsNames declared.now file
+        → result ≡ first (flat_map (in_section file) sections.now) }
 {
     let mut found = None;
     for section in sections {
@@ -159,7 +160,8 @@ fn in_part(part: &SectionPart, declared: &Declared) -> Option<At>
 }
 
 fn of_deps(line: u32, deps: &Result<List<Dep>, Cause>, declared: &Declared) -> Option<At>
-    ensures { (file : File) → RepresentsNames declared.now file → result ≡ first (at line (of_said file (Said.Depends deps.now))) }
+    ensures { (file : File) → RepresentsNames declared.now file
+        → result ≡ first (at line (of_said file (Said.Depends deps.now))) }
 {
     match deps {
         Ok(deps) => unless(
@@ -197,7 +199,8 @@ fn of_branch(
 }
 
 fn of_condition(line: u32, condition: &Result<Guard, Cause>, declared: &Declared) -> Option<At>
-    ensures { (file : File) → RepresentsNames declared.now file → result ≡ first (at line (of_condition file.sections condition.now)) }
+    ensures { (file : File) → RepresentsNames declared.now file
+        → result ≡ first (at line (of_condition file.sections condition.now)) }
 {
     match condition {
         Ok(cond) => unless(line, declared.has_flags(cond.get()), Cause::UnknownFlag),

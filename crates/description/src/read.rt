@@ -71,7 +71,8 @@ fn missing() -> Fault
 /// The cabal-version in the first element.
 fn cabal_version(alloc: Global, items: &[Element]) -> Result<Spec, Fault>
     ensures spec { IfOk result (λ spec. cabal_version (tree_of items.now) ≡ Ok spec) }
-    ensures fault { IfErr result (RefusesAt (λ line cause. cabal_version (tree_of items.now) ≡ Err (is_at line cause))) }
+    ensures fault { IfErr result (RefusesAt
+        (λ line cause. cabal_version (tree_of items.now) ≡ Err (is_at line cause))) }
 {
     match items {
         [] => Err(missing()),
@@ -121,7 +122,8 @@ fn spec_of(line: u32, text: &str) -> Result<Spec, Fault>
 fn described(alloc: Global, file: &File, digest: Text) -> Result<Description, Fault>
     requires { All (λ section. AreSectionParts section.parts) file.now.sections }
     ensures description { IfOk result (λ d. IsFileOutcome file.now digest (first (faults file.now)) (Ok d)) }
-    ensures fault { IfErr result (RefusesAt (λ line cause. IsFileOutcome file.now digest (first (faults file.now)) (Err (is_at line cause)))) }
+    ensures fault { IfErr result (RefusesAt
+        (λ line cause. IsFileOutcome file.now digest (first (faults file.now)) (Err (is_at line cause)))) }
 {
     let declared = Declared::of(alloc, file)?;
     let bodies = bodies_of(alloc, file.sections.as_slice())?;
@@ -137,9 +139,11 @@ fn judged(
     bodies: &Bodies,
 ) -> Result<Description, Fault>
     requires { All (λ section. AreSectionParts section.parts) file.now.sections }
-    ensures description { IfOk result (λ d. RepresentsNames declared.now file.now → AreBodiesOf file.now.sections bodies.now
+    ensures description { IfOk result (λ d. RepresentsNames declared.now file.now
+        → AreBodiesOf file.now.sections bodies.now
         → IsFileOutcome file.now digest (first (faults file.now)) (Ok d)) }
-    ensures fault { IfErr result (RefusesAt (λ line cause. RepresentsNames declared.now file.now → AreBodiesOf file.now.sections bodies.now
+    ensures fault { IfErr result (RefusesAt
+        (λ line cause. RepresentsNames declared.now file.now → AreBodiesOf file.now.sections bodies.now
         → IsFileOutcome file.now digest (first (faults file.now)) (Err (is_at line cause)))) }
 {
     let first = first_of_file(alloc, file, declared, bodies)?;
@@ -186,10 +190,13 @@ fn faultless(
     bodies: &Bodies,
 ) -> Result<Description, Fault>
     requires { All (λ section. AreSectionParts section.parts) file.now.sections }
-    ensures description { IfOk result (λ d. RepresentsNames declared.now file.now → AreBodiesOf file.now.sections bodies.now
+    ensures description { IfOk result (λ d. RepresentsNames declared.now file.now
+        → AreBodiesOf file.now.sections bodies.now
         → IsFaultlessOutcome file.now digest (own_name file.now.heads) (version_of file.now.heads) (Ok d)) }
-    ensures fault { IfErr result (RefusesAt (λ line cause. RepresentsNames declared.now file.now → AreBodiesOf file.now.sections bodies.now
-        → IsFaultlessOutcome file.now digest (own_name file.now.heads) (version_of file.now.heads) (Err (is_at line cause)))) }
+    ensures fault { IfErr result (RefusesAt
+        (λ line cause. RepresentsNames declared.now file.now → AreBodiesOf file.now.sections bodies.now
+        → IsFaultlessOutcome file.now digest (own_name file.now.heads) (version_of file.now.heads)
+        (Err (is_at line cause)))) }
 {
     let Some(name) = declared.name else {
         return Err(missing());
@@ -210,7 +217,8 @@ fn components_in(
     declared: &Declared,
     bodies: &Bodies,
 ) -> Result<List<Component>, NoMemory>
-    ensures { IfOk result (λ found. (file : File) → RepresentsNames declared.now file → AreBodiesOf file.sections bodies.now
+    ensures { IfOk result (λ found. (file : File) → RepresentsNames declared.now file
+        → AreBodiesOf file.sections bodies.now
         → All (λ section. AreSectionParts section.parts) file.sections → found ≡ components file) }
 {
     room(alloc, total_weight(bodies))?;

@@ -19,5 +19,6 @@ pub fn each_need_told_before()
 
 /// If each node of the plan has a line, each is printed.
 pub fn no_node_is_lacking()
-    ensures { (selection : Selection) (lines : List PlanNode) → IsPlan selection lines → HaveLines selection → LacksNone selection lines }
+    ensures { (selection : Selection) (lines : List PlanNode) → IsPlan selection lines → HaveLines selection
+        → LacksNone selection lines }
 {}

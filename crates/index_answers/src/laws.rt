@@ -12,7 +12,8 @@ ghost use Rattle.index_assembly.specs.Folder.{IsFolderIndex};
 
 /// The files of a folder have a project or a first refusal.
 pub fn some_folder_project()
-    ensures { (env : Env) (files : Files) → (outcome : Result FolderProject Refusal) × IsFolderProject env files outcome }
+    ensures { (env : Env) (files : Files)
+        → (outcome : Result FolderProject Refusal) × IsFolderProject env files outcome }
 {}
 
 /// The files of a folder have an index or a first refusal.

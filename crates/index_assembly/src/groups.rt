@@ -53,7 +53,8 @@ impl EntriesByName {
     /// Takes out the entries of a name.
     pub(crate) fn take(&mut self, alloc: Global, name: &Text) -> List<Entry>
         ensures taken { result ≡ held self.old name.now }
-        ensures others { (other : List ℕ) → same_text name.now other ≡ false → held self.new other ≡ held self.old other }
+        ensures others { (other : List ℕ) → same_text name.now other ≡ false
+            → held self.new other ≡ held self.old other }
     {
         match self.by_name.get_mut(name) {
             Some(there) => mem::replace(there, List::new(alloc)),

@@ -41,7 +41,8 @@ impl UnitNames {
 
     /// The places of the units that a unit needs, except those without a record.
     pub(crate) fn places(&self, alloc: Global, unit: &Unit) -> Result<List<usize>, NoMemory>
-        ensures { (units : List Unit) → Knows units self.now → IfOk result (λ places. places ≡ needed_places units unit.now) }
+        ensures { (units : List Unit) → Knows units self.now
+            → IfOk result (λ places. places ≡ needed_places units unit.now) }
     {
         let mut places = List::new(alloc);
         for id in unit.record_of.depends.as_slice() {
@@ -51,7 +52,8 @@ impl UnitNames {
     }
 
     fn push_place(&self, places: &mut List<usize>, id: &Text) -> Result<(), NoMemory>
-        ensures { (units : List Unit) → Knows units self.now → OnOk result (places.new ≡ places.old ++ places_in (place_of units id.now)) }
+        ensures { (units : List Unit) → Knows units self.now
+            → OnOk result (places.new ≡ places.old ++ places_in (place_of units id.now)) }
     {
         match self.ids.get_index_of(id) {
             None => Ok(()),
@@ -61,7 +63,8 @@ impl UnitNames {
 
     /// Whether a unit that it needs has no record.
     pub(crate) fn lacks_one(&self, unit: &Unit) -> bool
-        ensures { result ≡ list_any (λ id. is_none (position (same_text id) self.now.ids.keys)) unit.now.record_of.depends }
+        ensures { result ≡ list_any (λ id. is_none
+            (position (same_text id) self.now.ids.keys)) unit.now.record_of.depends }
     {
         unit.record_of
             .depends
@@ -81,7 +84,8 @@ impl UnitNames {
 
     /// The package names of the units that a unit needs, except those without a record.
     pub(crate) fn needs(&self, alloc: Global, unit: &Unit) -> Result<List<Text>, NoMemory>
-        ensures { (units : List Unit) → Knows units self.now → IfOk result (λ names. names ≡ needed_names units unit.now) }
+        ensures { (units : List Unit) → Knows units self.now
+            → IfOk result (λ names. names ≡ needed_names units unit.now) }
     {
         let mut names = List::new(alloc);
         for id in unit.record_of.depends.as_slice() {
@@ -91,7 +95,8 @@ impl UnitNames {
     }
 
     fn push_name(&self, names: &mut List<Text>, id: &Text) -> Result<(), NoMemory>
-        ensures { (units : List Unit) → Knows units self.now → OnOk result (names.new ≡ names.old ++ known_name units id.now) }
+        ensures { (units : List Unit) → Knows units self.now
+            → OnOk result (names.new ≡ names.old ++ known_name units id.now) }
     {
         match self.ids.get_index_of(id) {
             None => Ok(()),

@@ -102,7 +102,8 @@ fn push_unless(
     unit: Unit,
     known: &UnitNames,
 ) -> Result<(), NoMemory>
-    ensures { (units : List Unit) → Knows units known.now → OnOk result (entries.new ≡ entries.old ++ entry_unless lacks units unit) }
+    ensures { (units : List Unit) → Knows units known.now
+        → OnOk result (entries.new ≡ entries.old ++ entry_unless lacks units unit) }
 {
     if !lacks {
         entries.push(unit_entry(alloc, unit, known)?)?;

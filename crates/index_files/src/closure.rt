@@ -35,8 +35,10 @@ pub(crate) fn read_closure<F: Folder>(
     totals: Totals,
     folder: &mut F,
 ) -> Result<Option<List<FoundName>>, Trouble>
-    ensures told { IfSome (F.tells folder.old) (λ files. IfOk result (Reaches (ground_of before.now) totals.files totals.bytes files)) }
-    ensures kept { IfOk result (λ found. IfSome found (λ found. AreKept (ground_of before.now) (map (λ f. f.name) found) found)) }
+    ensures told { IfSome (F.tells folder.old)
+        (λ files. IfOk result (Reaches (ground_of before.now) totals.files totals.bytes files)) }
+    ensures kept { IfOk result (λ found. IfSome found
+        (λ found. AreKept (ground_of before.now) (map (λ f. f.name) found) found)) }
     ensures folder { Leaves F.tells F.faults folder.old folder.new (IsErrOf result Trouble.Failed) }
 {
     let mut totals = totals;
@@ -91,7 +93,8 @@ fn visit<F: Folder>(
     requires { place < length names.old.keys }
     ensures told { IfSome (F.tells folder.old) (λ files. IfOk result
         (VisitsAt (ground_of before.now) files names.old.keys place totals.old totals.new)) }
-    ensures found { IfOk result (λ read. IfSome read (FindsAt (ground_of before.now) place names.old.keys names.new.keys)) }
+    ensures found { IfOk result (λ read. IfSome read
+        (FindsAt (ground_of before.now) place names.old.keys names.new.keys)) }
     ensures folder { Leaves F.tells F.faults folder.old folder.new (IsErrOf result Trouble.Failed) }
 {
     let name = name_at(names, place)?;
@@ -127,7 +130,8 @@ fn put_mentioned(
     name: &Text,
     releases: &[Release],
 ) -> Result<(), NoMemory>
-    ensures { OnOk result (names.new.keys ≡ put_all names.old.keys (mentioned_by (ground_of before.now) name.now releases.now)) }
+    ensures { OnOk result (names.new.keys
+        ≡ put_all names.old.keys (mentioned_by (ground_of before.now) name.now releases.now)) }
 {
     put_local(names, local_of(before.locals, name))?;
     put_all(names, before.needed.by(name))?;

@@ -67,7 +67,8 @@ impl Locals {
 
     fn with_file(self, alloc: Global, file: &ReadFile, env: &Env) -> Result<Locals, Halt>
         requires { HasContentWithinLimit file.now }
-        ensures { Settles (OnPart (λ locals. locals.list) (Steps (FileComes env.now) with_file self.list file.now)) result }
+        ensures { Settles (OnPart (λ locals. locals.list)
+            (Steps (FileComes env.now) with_file self.list file.now)) result }
     {
         match source_in(alloc, &file.content, env) {
             Ok(source) => self.with_source(&file.path, source),

@@ -43,7 +43,8 @@ pub(crate) fn put_asked_packages(
 }
 
 fn put_outward(names: &mut IndexSet<Text>, components: &[Component]) -> Result<(), NoMemory>
-    ensures { OnOk result (names.new.keys ≡ put_all names.old.keys (map outward_name (flat_map outward_in components.now))) }
+    ensures { OnOk result (names.new.keys
+        ≡ put_all names.old.keys (map outward_name (flat_map outward_in components.now))) }
 {
     for component in components {
         put_component(names, component)?;

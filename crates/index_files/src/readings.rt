@@ -44,7 +44,8 @@ pub fn read_index_files<F: Folder>(
     env: &Env,
     folder: &mut F,
 ) -> Result<Readings, Halt>
-    ensures told { IfSome (F.tells folder.old) (λ files. Answers (AreReadings env.now places.now extra.now paths.now files) result) }
+    ensures told { IfSome (F.tells folder.old)
+        (λ files. Answers (AreReadings env.now places.now extra.now paths.now files) result) }
     ensures form { IfOk result (AreWellFormed env.now places.now extra.now) }
     ensures folder { Leaves F.tells F.faults folder.old folder.new (IsErrOf result Halt.Failed) }
 {
@@ -72,7 +73,8 @@ fn record_paths<F: Folder>(
     places: &Places,
     folder: &mut F,
 ) -> Result<List<Text>, Trouble>
-    ensures told { IfSome (F.tells folder.old) (λ files. IfOk result (λ paths. paths ≡ paths_of_records places.now files)) }
+    ensures told { IfSome (F.tells folder.old)
+        (λ files. IfOk result (λ paths. paths ≡ paths_of_records places.now files)) }
     ensures folder { Leaves F.tells F.faults folder.old folder.new (IsErrOf result Trouble.Failed) }
 {
     let names = list_names(alloc, places.installed.as_str(), folder)?;

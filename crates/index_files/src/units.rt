@@ -54,7 +54,8 @@ pub(crate) fn read_records<F: Folder>(
     folder: &mut F,
 ) -> Result<Counted, Halt>
     ensures told { IfSome (F.tells folder.old) (λ files. Answers
-        (OnPart (λ counted. counted.units.list) (AreUnitsOf places.now (map (file_found true files) paths.now))) result) }
+        (OnPart (λ counted. counted.units.list)
+        (AreUnitsOf places.now (map (file_found true files) paths.now))) result) }
     ensures counts { IfSome (F.tells folder.old) (λ files. IfOk result
         (λ counted. CountsAll counted.totals (map (file_found true files) paths.now))) }
     ensures once { IfOk result (λ counted. IsDistinct same_text (unit_ids counted.units.list)) }
@@ -150,7 +151,8 @@ fn record_in(alloc: Global, content: &Content) -> Result<Option<UnitRecord>, Fau
     requires { IsWithin content.now }
     ensures found { IfOk result (λ found. OfRecord (bytes_in content.now) (Ok found)) }
     ensures fault { IfErr result (RefusesAt (λ line cause. OfRecord (bytes_in content.now) (Err (is_at line cause)))) }
-    ensures formed { IfOk result (λ found. IfSome found (λ r. (path : List ℕ) → is_well_formed (record { path = path; record_of = r }) ≡ true)) }
+    ensures formed { IfOk result (λ found. IfSome found
+        (λ r. (path : List ℕ) → is_well_formed (record { path = path; record_of = r }) ≡ true)) }
 {
     match content {
         Content::Missing => record_of(alloc, &[]),
@@ -166,7 +168,8 @@ fn record_of(alloc: Global, bytes: &[u8]) -> Result<Option<UnitRecord>, Fault>
     requires { length bytes.now ≤ 1048576 }
     ensures found { IfOk result (λ found. OfRecord (Some bytes.now) (Ok found)) }
     ensures fault { IfErr result (RefusesAt (λ line cause. OfRecord (Some bytes.now) (Err (is_at line cause)))) }
-    ensures formed { IfOk result (λ found. IfSome found (λ r. (path : List ℕ) → is_well_formed (record { path = path; record_of = r }) ≡ true)) }
+    ensures formed { IfOk result (λ found. IfSome found
+        (λ r. (path : List ℕ) → is_well_formed (record { path = path; record_of = r }) ≡ true)) }
 {
     read_record(alloc, bytes)
 }

@@ -24,7 +24,8 @@ pub(crate) fn read_name<F: Folder>(
     totals: &mut Totals,
     folder: &mut F,
 ) -> Result<Option<List<Release>>, Trouble>
-    ensures told { IfSome (F.tells folder.old) (λ files. IfOk result (Visits (ground_of before.now) files name.now totals.old totals.new)) }
+    ensures told { IfSome (F.tells folder.old)
+        (λ files. IfOk result (Visits (ground_of before.now) files name.now totals.old totals.new)) }
     ensures judged { IfOk result (λ read. IfSome read (AreJudged before.now.env.now name.now)) }
     ensures folder { Leaves F.tells F.faults folder.old folder.new (IsErrOf result Trouble.Failed) }
 {
@@ -69,7 +70,8 @@ fn names_below<F: Folder>(
     name: &Text,
     folder: &mut F,
 ) -> Result<List<Name>, Trouble>
-    ensures told { IfSome (F.tells folder.old) (λ files. IfOk result (λ names. names ≡ names_below places.now files name.now)) }
+    ensures told { IfSome (F.tells folder.old)
+        (λ files. IfOk result (λ names. names ≡ names_below places.now files name.now)) }
     ensures order { IfOk result IsInOrder }
     ensures folder { Leaves F.tells F.faults folder.old folder.new (IsErrOf result Trouble.Failed) }
 {

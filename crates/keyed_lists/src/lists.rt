@@ -17,7 +17,8 @@ pub fn push_at<K: Eq + Hash + Drop, T: Drop>(
     key: K,
     item: T,
 ) -> Result<(), NoMemory>
-    ensures ok { OnOk result ((k : K) → items_at K.eq lists.new k ≡ items_at K.eq lists.old k ++ (if K.eq key k then item ∷ [] else [])) }
+    ensures ok { OnOk result ((k : K) → items_at K.eq lists.new k
+        ≡ items_at K.eq lists.old k ++ (if K.eq key k then item ∷ [] else [])) }
     ensures err { OnErr result ((k : K) → items_at K.eq lists.new k ≡ items_at K.eq lists.old k) }
 {
     if let Some(items) = lists.get_mut(&key) {
@@ -31,7 +32,8 @@ pub fn push_at<K: Eq + Hash + Drop, T: Drop>(
 
 /// Removes the last item from the list of a key.
 pub fn pop_at<K: Eq + Hash, T: Drop>(lists: &mut Lists<K, T>, key: &K)
-    ensures { (k : K) → items_at K.eq lists.new k ≡ (if K.eq key.now k then all_but_last (items_at K.eq lists.old k) else items_at K.eq lists.old k) }
+    ensures { (k : K) → items_at K.eq lists.new k
+        ≡ (if K.eq key.now k then all_but_last (items_at K.eq lists.old k) else items_at K.eq lists.old k) }
 {
     if let Some(items) = lists.get_mut(key) {
         items.pop();

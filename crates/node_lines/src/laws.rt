@@ -7,5 +7,6 @@ ghost use Rattle.node_lines.specs.Lines.{HasLine};
 
 /// The line of a node is unique.
 pub fn one_line()
-    ensures { (selection : Selection) (node : Node) (a b : PlanNode) → HasLine selection node a → HasLine selection node b → a ≡ b }
+    ensures { (selection : Selection) (node : Node) (a b : PlanNode) → HasLine selection node a
+        → HasLine selection node b → a ≡ b }
 {}

@@ -60,8 +60,10 @@ pub(crate) fn enter(
     chain: Option<usize>,
 ) -> Result<(), NoMemory>
     ensures grown { OnOk result (Grown conds.old conds.new) }
-    ensures levels { OnOk result ((opened : List Branch) (before : Option Branch) → AreLevels conds.old [] levels.old opened
-        → IsNumbered conds.old chain (chain_after before) → AreLevels conds.new [] levels.new (opened ++ begun said.now before)) }
+    ensures levels { OnOk result ((opened : List Branch) (before : Option Branch)
+        → AreLevels conds.old [] levels.old opened
+        → IsNumbered conds.old chain (chain_after before)
+        → AreLevels conds.new [] levels.new (opened ++ begun said.now before)) }
 {
     match said {
         Said::Branch {

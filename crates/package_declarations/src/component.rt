@@ -24,7 +24,8 @@ pub fn components(
     declared: &Declared,
     bodies: &Bodies,
 ) -> Result<List<Component>, NoMemory>
-    ensures { IfOk result (λ found. (file : File) → RepresentsNames declared.now file → AreBodiesOf file.sections bodies.now
+    ensures { IfOk result (λ found. (file : File) → RepresentsNames declared.now file
+        → AreBodiesOf file.sections bodies.now
         → All (λ section. AreSectionParts section.parts) file.sections → found ≡ components file) }
 {
     let mut components = List::new(alloc);
@@ -82,10 +83,12 @@ fn visibility(placed: &Placed, public: bool) -> bool
 
 // Goes through the parts in file order.
 fn gathered(alloc: Global, declared: &Declared, placed: &[Placed]) -> Result<Gathered, NoMemory>
-    ensures stands { IfOk result (λ gathered. (opened : List Branch) × (barred : List Cond) × RepresentsState gathered opened barred) }
+    ensures stands { IfOk result (λ gathered. (opened : List Branch) × (barred : List Cond)
+        × RepresentsState gathered opened barred) }
     ensures barred { IfOk result (λ gathered. AreSectionParts (map placed_part placed.now)
         → (opened : List Branch) × RepresentsState gathered opened (flat_map barrier (map placed_part placed.now))) }
-    ensures deps { IfOk result (λ gathered. (file : File) → RepresentsNames declared.now file → AreSectionParts (map placed_part placed.now)
+    ensures deps { IfOk result (λ gathered. (file : File) → RepresentsNames declared.now file
+        → AreSectionParts (map placed_part placed.now)
         → deps_in gathered.groups ≡ flat_map (guarded file) (map placed_part placed.now)) }
 {
     let mut gathered = Gathered::new(alloc)?;

@@ -66,7 +66,8 @@ impl<'a> Declared<'a> {
     }
 
     fn has_library(&self, lib: &LibName) -> bool
-        ensures { (file : File) → RepresentsNames self.now file → result ≡ declares is_library file.sections (library_name lib.now) }
+        ensures { (file : File) → RepresentsNames self.now file
+            → result ≡ declares is_library file.sections (library_name lib.now) }
     {
         match lib {
             LibName::Main => self.libraries.has(""),
@@ -306,7 +307,8 @@ fn names_of<'a>(
 }
 
 fn put<'a>(names: &mut NameSet<'a>, name: &'a str, wanted: bool) -> Result<(), NoMemory>
-    ensures { OnOk result ((other : List ℕ) → has names.new other ≡ (has names.old other || (wanted && same_text other name.now))) }
+    ensures { OnOk result ((other : List ℕ)
+        → has names.new other ≡ (has names.old other || (wanted && same_text other name.now))) }
 {
     if wanted {
         names.insert(name)?;

@@ -82,12 +82,15 @@ impl Gathered {
         declared: &Declared,
         placed: &Placed,
     ) -> Result<Gathered, NoMemory>
-        ensures stands { IfOk result (λ after. (opened : List Branch) (barred : List Cond) → RepresentsState self opened barred
+        ensures stands { IfOk result (λ after. (opened : List Branch) (barred : List Cond)
+            → RepresentsState self opened barred
             → RepresentsState after (branches_behind opened (placed_part placed.now))
             (barred ++ bars (placed_part placed.now).said (place_in opened (placed_part placed.now)))) }
-        ensures deps { IfOk result (λ after. (file : File) → RepresentsNames declared.now file → (opened : List Branch) (barred : List Cond)
+        ensures deps { IfOk result (λ after. (file : File) → RepresentsNames declared.now file
+            → (opened : List Branch) (barred : List Cond)
             → RepresentsState self opened barred → deps_in after.groups ≡ deps_in self.groups
-            ++ map (under (place_in opened (placed_part placed.now))) (map (meant file) (deps_said (placed_part placed.now).said))) }
+            ++ map (under (place_in opened (placed_part placed.now)))
+            (map (meant file) (deps_said (placed_part placed.now).said))) }
     {
         let Gathered {
             mut conds,
@@ -113,7 +116,8 @@ impl Gathered {
     /// The condition of being buildable, and all dependencies.
     pub fn into_parts(self, alloc: Global) -> Result<(TabledCond, GuardedDeps), NoMemory>
         requires { (opened : List Branch) × (barred : List Cond) × RepresentsState self opened barred }
-        ensures buildable { IfOk result (λ parts. (opened : List Branch) (barred : List Cond) → RepresentsState self opened barred
+        ensures buildable { IfOk result (λ parts. (opened : List Branch) (barred : List Cond)
+            → RepresentsState self opened barred
             → parts.0 ≡ all_of barred) }
         ensures deps { IfOk result (λ parts. parts.1 ≡ deps_in self.groups) }
     {
@@ -144,9 +148,11 @@ impl Groups {
         number: usize,
         mut deps: List<Shared<Dep>>,
     ) -> Result<Groups, NoMemory>
-        ensures tabled { IfOk result (λ after. (place : Cond) → slice_get conds.now number ≡ Some place → GroupsTabled conds.now self
+        ensures tabled { IfOk result (λ after. (place : Cond) → slice_get conds.now number ≡ Some place
+            → GroupsTabled conds.now self
             → GroupsTabled conds.now after) }
-        ensures deps { IfOk result (λ after. (place : Cond) → slice_get conds.now number ≡ Some place → GroupsTabled conds.now self
+        ensures deps { IfOk result (λ after. (place : Cond) → slice_get conds.now number ≡ Some place
+            → GroupsTabled conds.now self
             → deps_in after ≡ deps_in self ++ map (under place) deps) }
     {
         if deps.is_empty() {
@@ -173,7 +179,8 @@ impl Groups {
 
     // All groups in order.
     fn into_list(self) -> Result<List<DepGroup>, NoMemory>
-        ensures tabled { IfOk result (λ groups. (conds : List Cond) → GroupsTabled conds self → AreTabled conds groups) }
+        ensures tabled { IfOk result (λ groups. (conds : List Cond) → GroupsTabled conds self
+            → AreTabled conds groups) }
         ensures deps { IfOk result (λ groups. in_groups groups ≡ deps_in self) }
     {
         let mut groups = self.closed;
@@ -193,8 +200,10 @@ fn with_bar(
     said: &Said,
 ) -> Result<Option<usize>, NoMemory>
     ensures grown { OnOk result (Grown conds.old conds.new) }
-    ensures free { IfOk result (λ after. (before : List Cond) (place : Cond) → IsNumbered conds.old barred (joined_some before)
-        → slice_get conds.old here ≡ Some place → IsNumbered conds.new after (joined_some (before ++ bars said.now place))) }
+    ensures free { IfOk result (λ after. (before : List Cond) (place : Cond)
+        → IsNumbered conds.old barred (joined_some before)
+        → slice_get conds.old here ≡ Some place
+        → IsNumbered conds.new after (joined_some (before ++ bars said.now place))) }
 {
     if !is_unbuildable(said) {
         return Ok(barred);
@@ -225,7 +234,8 @@ fn asked(said: &Said) -> &[Dep]
 
 // The dependencies with their meanings resolved.
 fn meant(alloc: Global, declared: &Declared, found: &[Dep]) -> Result<List<Shared<Dep>>, NoMemory>
-    ensures { IfOk result (λ deps. (file : File) → RepresentsNames declared.now file → deps ≡ map (meant file) found.now) }
+    ensures { IfOk result (λ deps. (file : File) → RepresentsNames declared.now file
+        → deps ≡ map (meant file) found.now) }
 {
     let mut deps = List::with_room(alloc, found.len())?;
     for dep in found {

@@ -24,7 +24,8 @@ pub fn build_index<F: Folder>(
     folder: &mut F,
 ) -> Result<Index, Halt>
     requires { AreNamed extra.now }
-    ensures told { IfSome (F.tells folder.old) (λ files. Answers (IsFolderIndex env.now places.now extra.now locals.now files) result) }
+    ensures told { IfSome (F.tells folder.old)
+        (λ files. Answers (IsFolderIndex env.now places.now extra.now locals.now files) result) }
     ensures sound { IfOk result (IsSound env.now) }
     ensures extra { IfOk result (AreThere extra.now) }
     ensures marked { IfOk result (AreMarked extra.now) }

@@ -20,7 +20,8 @@ use unit_record::one_record;
 /// The index of what was read is sound, over any folder.
 pub fn indexes_are_sound()
     ensures { (env : Env) (places : Places) (extra : List Named) (readings : Readings) (index : Index)
-        → AreWellFormed env places extra readings → AreNamed extra → IsIndexOf extra readings index → IsSound env index }
+        → AreWellFormed env places extra readings → AreNamed extra → IsIndexOf extra readings index
+        → IsSound env index }
 {
     descriptions_are_sound();
     descriptions_are_well_formed();
@@ -36,7 +37,8 @@ pub fn extras_are_there()
 
 /// A folder has at most one outcome: one index or one first refusal.
 pub fn one_folder_index()
-    ensures { (env : Env) (places : Places) (extra : List Named) (paths : List Bytes) (files : Files) (a b : Result Index Refusal)
+    ensures { (env : Env) (places : Places) (extra : List Named) (paths : List Bytes) (files : Files)
+        (a b : Result Index Refusal)
         → IsFolderIndex env places extra paths files a → IsFolderIndex env places extra paths files b → a ≡ b }
 {
     one_source();

@@ -36,12 +36,14 @@ pub fn run<F: Folder, S: Sink>(alloc: Global, words: &[Text], folder: &mut F, ou
     // reported only if no such assignment exists. Without a limit the search never gives up.
     ensures headline { (options : PlanOptions) (files : Files)
         → reading words.now ≡ Some (Plan options) → options.count_conflicts ≡ false → F.tells folder.old ≡ Some files
-        → Prints (Means Least options.minimize (form_of options) options files) (S.bytes out.old) (S.bytes out.new) result }
+        → Prints (Means Least options.minimize (form_of options) options files) (S.bytes out.old)
+        (S.bytes out.new) result }
 
     // The same with counted conflicts, but the plan is that of some complete, valid assignment.
     ensures counting { (options : PlanOptions) (files : Files)
         → reading words.now ≡ Some (Plan options) → options.count_conflicts ≡ true → F.tells folder.old ≡ Some files
-        → Prints (Means MostMet options.minimize (form_of options) options files) (S.bytes out.old) (S.bytes out.new) result }
+        → Prints (Means MostMet options.minimize (form_of options) options files) (S.bytes out.old)
+        (S.bytes out.new) result }
 
     // For `freeze`: the old freeze file, and then the constraints of the choices of the first complete, valid
     // assignment. Laws of `frozen_plan` show what these leave: nothing becomes valid that wasn't, the first
@@ -109,9 +111,12 @@ fn perform<F: Folder, S: Sink>(
     out: &mut S,
 ) -> Status
     requires { IsBounded command }
-    ensures headline { (options : PlanOptions) (files : Files) → command ≡ Plan options → F.tells folder.old ≡ Some files
-        → Prints (Means (picking_of options) options.minimize (form_of options) options files) (S.bytes out.old) (S.bytes out.new) result }
-    ensures frozen { (options : PlanOptions) (files : Files) → command ≡ Freeze options → F.tells folder.old ≡ Some files
+    ensures headline { (options : PlanOptions) (files : Files) → command ≡ Plan options
+        → F.tells folder.old ≡ Some files
+        → Prints (Means (picking_of options) options.minimize (form_of options) options files) (S.bytes out.old)
+        (S.bytes out.new) result }
+    ensures frozen { (options : PlanOptions) (files : Files) → command ≡ Freeze options
+        → F.tells folder.old ≡ Some files
         → Prints (MeansFreeze options files) (S.bytes out.old) (S.bytes out.new) result }
     ensures replayed { (options : PlanOptions) (events : Bytes) (slots : ℕ) (files : Files)
         → command ≡ Replay options events slots → F.tells folder.old ≡ Some files
@@ -139,15 +144,19 @@ fn perform<F: Folder, S: Sink>(
 // The output of a command.
 fn output_of<F: Folder>(alloc: Global, command: Command, folder: &mut F) -> Result<Output, Trouble>
     requires { IsBounded command }
-    ensures headline { (options : PlanOptions) (files : Files) → command ≡ Plan options → F.tells folder.old ≡ Some files
+    ensures headline { (options : PlanOptions) (files : Files) → command ≡ Plan options
+        → F.tells folder.old ≡ Some files
         → IfOk result (Means (picking_of options) options.minimize (form_of options) options files) }
-    ensures frozen { (options : PlanOptions) (files : Files) → command ≡ Freeze options → F.tells folder.old ≡ Some files
+    ensures frozen { (options : PlanOptions) (files : Files) → command ≡ Freeze options
+        → F.tells folder.old ≡ Some files
         → IfOk result (MeansFreeze options files) }
     ensures replayed { (options : PlanOptions) (events : Bytes) (slots : ℕ) (files : Files)
-        → command ≡ Replay options events slots → F.tells folder.old ≡ Some files → IfOk result (MeansReplay options events slots files) }
+        → command ≡ Replay options events slots → F.tells folder.old ≡ Some files
+        → IfOk result (MeansReplay options events slots files) }
     ensures told { (files : Files) → Reads (Some command) (F.tells folder.old) files
         → IfOk result (IsOutputOfCommand (Some command) files) }
-    ensures generated { (number : ℕ) (limit : TheLimit) → command ≡ Generate number limit → IfOk result (MeansGenerated number limit) }
+    ensures generated { (number : ℕ) (limit : TheLimit) → command ≡ Generate number limit
+        → IfOk result (MeansGenerated number limit) }
     ensures unasked { (number : ℕ) (limit : TheLimit) → command ≡ Generate number limit
         → (folder.new ≡ folder.old) × (IsErrOf result Trouble.Failed → ⊥) }
     ensures form { IfOk result (MayPrint (Some command)) }

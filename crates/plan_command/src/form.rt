@@ -146,7 +146,8 @@ fn shrunk_text(
     names: &Names,
     counts: Counts,
 ) -> Result<Text, NoMemory>
-    ensures { IfOk result (λ text. text ≡ shrunk_text_in json index.now names.now shrunk.now.set shrunk.now.maps counts) }
+    ensures { IfOk result (λ text. text
+        ≡ shrunk_text_in json index.now names.now shrunk.now.set shrunk.now.maps counts) }
 {
     if json {
         json_of_shrunk(alloc, &shrunk.set, &shrunk.maps, index, names, counts)

@@ -13,7 +13,8 @@ use replay_text::one_replay;
 
 /// Words and files determine the output: its status and its text.
 pub fn one_answer()
-    ensures { (words : List Bytes) (files : Files) (a b : Output) → IsOutputOf words files a → IsOutputOf words files b → a ≡ b }
+    ensures { (words : List Bytes) (files : Files) (a b : Output) → IsOutputOf words files a → IsOutputOf words files b
+        → a ≡ b }
 {
     one_folder_project();
     one_folder_index();

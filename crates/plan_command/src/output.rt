@@ -27,7 +27,8 @@ pub(crate) struct Output {
 
 // The output of a step that halted, if it was refused.
 pub(crate) fn halted(alloc: Global, halt: Halt) -> Result<Output, Trouble>
-    ensures refused { IfOk result (λ output. (refusal : TheRefusal) × (halt ≡ Halt.Refused refusal) × (output ≡ refused refusal)) }
+    ensures refused { IfOk result (λ output. (refusal : TheRefusal) × (halt ≡ Halt.Refused refusal)
+        × (output ≡ refused refusal)) }
     ensures made { IfOk result (λ output. IsMade output.status) }
     ensures read { IfOk result (λ output. output.status ≢ Status.Usage) }
     ensures failed { IsErrOf result Trouble.Failed → halt ≡ Halt.Failed }
@@ -59,8 +60,10 @@ pub(crate) fn output_of_finding(
     finding: &Finding,
 ) -> Result<Output, NoMemory>
     requires sound { IsSound env.now index.now }
-    requires new { (trail : List TheChoice) (counts : TheCounts) → finding.now.outcome ≡ Found trail counts → AreNew trail }
-    ensures output { IfOk result (IsOutputOfOutcome form.now env.now index.now finding.now.names finding.now.blame finding.now.outcome) }
+    requires new { (trail : List TheChoice) (counts : TheCounts) → finding.now.outcome ≡ Found trail counts
+        → AreNew trail }
+    ensures output { IfOk result (IsOutputOfOutcome form.now env.now index.now finding.now.names finding.now.blame
+        finding.now.outcome) }
     ensures made { IfOk result (λ output. IsMade output.status) }
     ensures read { IfOk result (λ output. output.status ≢ Status.Usage) }
 {

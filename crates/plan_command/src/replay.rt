@@ -27,8 +27,10 @@ pub(crate) fn output_of_replay<F: Folder>(
     slots: u32,
     folder: &mut F,
 ) -> Result<Output, Trouble>
-    ensures meaning { (files : Files) → F.tells folder.old ≡ Some files → IfOk result (MeansReplay options events.now slots files) }
-    ensures told { (files : Files) → F.tells folder.old ≡ Some files → IfOk result (IsOutputOfReplay options events.now slots files) }
+    ensures meaning { (files : Files) → F.tells folder.old ≡ Some files
+        → IfOk result (MeansReplay options events.now slots files) }
+    ensures told { (files : Files) → F.tells folder.old ≡ Some files
+        → IfOk result (IsOutputOfReplay options events.now slots files) }
     ensures form { IfOk result (MayPrint (Some (Replay options events.now slots))) }
     ensures made { IfOk result (λ output. IsMade output.status) }
     ensures read { IfOk result (λ output. output.status ≢ Status.Usage) }

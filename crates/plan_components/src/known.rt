@@ -29,7 +29,8 @@ pub(crate) fn known_of(
     requires apart { are_apart (map (λ decl. decl.name) d.now.flags) ≡ true }
     requires source { IsSourceOf (selection_of chosen.now) node d.now }
     requires last { IfSome last (IsKnown (selection_of chosen.now)) }
-    ensures flags { IfOk result (λ known. known.flags ≡ chosen_flags (selection_of chosen.now) node.qual node.«package» d.now) }
+    ensures flags { IfOk result (λ known. known.flags
+        ≡ chosen_flags (selection_of chosen.now) node.qual node.«package» d.now) }
     ensures known { IfOk result (IsKnown (selection_of chosen.now)) }
 {
     match last {
@@ -57,8 +58,10 @@ impl KnownOwner {
         d: &Description,
     ) -> Result<KnownOwner, NoMemory>
         requires { are_apart (map (λ decl. decl.name) d.now.flags) ≡ true }
-        ensures flags { IfOk result (λ known. known.flags ≡ chosen_flags (selection_of chosen.now) node.qual node.«package» d.now) }
-        ensures known { IsSourceOf (selection_of chosen.now) node d.now → IfOk result (IsKnown (selection_of chosen.now)) }
+        ensures flags { IfOk result (λ known. known.flags
+            ≡ chosen_flags (selection_of chosen.now) node.qual node.«package» d.now) }
+        ensures known { IsSourceOf (selection_of chosen.now) node d.now
+            → IfOk result (IsKnown (selection_of chosen.now)) }
     {
         let owner = package_var(node.qual, node.package);
         let flags = chosen.flags(alloc, node.qual, node.package, d)?;

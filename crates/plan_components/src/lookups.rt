@@ -122,7 +122,8 @@ impl<'a> Chosen<'a> {
         package: u64,
         decls: &[FlagDecl],
     ) -> Result<(), NoMemory>
-        ensures { OnOk result (flags.new ≡ flags.old ++ map (chosen_flag (selection_of self.now) qual «package») decls.now) }
+        ensures { OnOk result (flags.new ≡ flags.old ++ map
+            (chosen_flag (selection_of self.now) qual «package») decls.now) }
     {
         for decl in decls {
             flags.push(self.flag(qual, package, decl)?)?;

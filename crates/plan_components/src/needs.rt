@@ -106,7 +106,8 @@ fn piece_needs(
     d: &Description,
 ) -> Result<List<Need>, NoMemory>
     requires { IsKnown (selection_of chosen.now) known.now }
-    ensures { IfOk result (λ needs. needs ≡ piece_needs (selection_of chosen.now) node known.now.flags d.now node.piece) }
+    ensures { IfOk result (λ needs. needs
+        ≡ piece_needs (selection_of chosen.now) node known.now.flags d.now node.piece) }
 {
     let mut needs = List::new(alloc);
     let owner = Owner { node, known };
@@ -146,7 +147,8 @@ fn push_one(
 ) -> Result<(), NoMemory>
     requires { IsKnown (selection_of chosen.now) owner.now.known.now }
     ensures { OnOk result (needs.new ≡ needs.old
-        ++ one_needs (selection_of chosen.now) owner.now.node owner.now.known.now.flags (option_copied component.entry)) }
+        ++ one_needs (selection_of chosen.now) owner.now.node owner.now.known.now.flags
+        (option_copied component.entry)) }
 {
     match component {
         Some(component) => push_component(alloc, needs, chosen, owner, true, component),
@@ -182,7 +184,8 @@ fn push_setup(
     deps: &[Dep],
 ) -> Result<(), NoMemory>
     requires { IsKnown (selection_of chosen.now) owner.now.known.now }
-    ensures { OnOk result (needs.new ≡ needs.old ++ flat_map (dep_needs (selection_of chosen.now) owner.now.node) deps.now) }
+    ensures { OnOk result (needs.new ≡ needs.old ++ flat_map
+        (dep_needs (selection_of chosen.now) owner.now.node) deps.now) }
 {
     for dep in deps {
         push_dep(alloc, needs, chosen, owner, dep)?;
@@ -241,7 +244,8 @@ fn push_group(
     requires known { IsKnown (selection_of chosen.now) owner.now.known.now }
     requires built { condition_holds chosen.now.env.now owner.now.known.now.flags component.now.buildable ≡ true }
     ensures { OnOk result (needs.new ≡ needs.old
-        ++ needs_among (selection_of chosen.now) owner.now.node owner.now.known.now.flags own component.now (of_group group.now)) }
+        ++ needs_among (selection_of chosen.now) owner.now.node owner.now.known.now.flags own component.now
+        (of_group group.now)) }
 {
     if chosen.condition_holds(&owner.known.flags, group.when.get()) {
         push_asked(alloc, needs, chosen, owner, own, group.deps.as_slice())?;

@@ -88,7 +88,8 @@ fn visit(
     requires place { place < length nodes.old.keys }
     requires last { IfSome last.old (IsKnown (selection_of chosen.now)) }
     ensures needs { IfOk result (λ needs. needs ≡ needs_of (selection_of chosen.now) (node_at nodes.old.keys place)) }
-    ensures put { OnOk result (AppendsNew (needed_nodes (selection_of chosen.now) (node_at nodes.old.keys place)) nodes.old.keys nodes.new.keys) }
+    ensures put { OnOk result (AppendsNew
+        (needed_nodes (selection_of chosen.now) (node_at nodes.old.keys place)) nodes.old.keys nodes.new.keys) }
     ensures last { IfSome last.new (IsKnown (selection_of chosen.now)) }
 {
     let node = nodes[place];

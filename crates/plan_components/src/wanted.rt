@@ -114,7 +114,8 @@ fn first_places(
     local: bool,
     components: &[Component],
 ) -> Result<List<u64>, NoMemory>
-    ensures { IfOk result (λ found. found ≡ first_places local (wanted_of (selection_of chosen.now) owner.now) components.now) }
+    ensures { IfOk result (λ found. found
+        ≡ first_places local (wanted_of (selection_of chosen.now) owner.now) components.now) }
 {
     if local {
         return wanted_places(alloc, chosen, owner, Among::All, components);
@@ -137,7 +138,8 @@ fn wanted_places(
     among: Among,
     components: &[Component],
 ) -> Result<List<u64>, NoMemory>
-    ensures { IfOk result (λ found. found ≡ places (is_wanted_among (selection_of chosen.now) owner.now among) components.now) }
+    ensures { IfOk result (λ found. found
+        ≡ places (is_wanted_among (selection_of chosen.now) owner.now among) components.now) }
 {
     let mut found = List::new(alloc);
     for place in 0..components.len() {

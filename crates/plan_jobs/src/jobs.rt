@@ -86,7 +86,8 @@ impl Jobs {
     /// Starts the least ready node.
     pub fn start_next(&mut self) -> Result<u64, JobFault>
         ensures reply { ForItsEvents self.old (λ nodes slots events. IsStart nodes slots events result) }
-        ensures after { ForItsEvents self.old (λ nodes slots events. AreAfter nodes slots (events ++ starts result ∷ []) self.new) }
+        ensures after { ForItsEvents self.old
+            (λ nodes slots events. AreAfter nodes slots (events ++ starts result ∷ []) self.new) }
         ensures err { OnErr result (self.new ≡ self.old) }
     {
         if self.running == self.slots {
@@ -104,7 +105,8 @@ impl Jobs {
     /// Reports that a running node is completed.
     pub fn completed(&mut self, place: u64) -> Result<(), JobFault>
         ensures reply { ForItsEvents self.old (λ nodes slots events. IsReportReply nodes events place result) }
-        ensures after { ForItsEvents self.old (λ nodes slots events. AreAfter nodes slots (events ++ completes place result ∷ []) self.new) }
+        ensures after { ForItsEvents self.old
+            (λ nodes slots events. AreAfter nodes slots (events ++ completes place result ∷ []) self.new) }
         ensures err { OnErr result (self.new ≡ self.old) }
     {
         let place = running_place(self.states.as_slice(), place)?;
@@ -122,7 +124,8 @@ impl Jobs {
     /// Reports that a running node has failed.
     pub fn failed(&mut self, place: u64) -> Result<(), JobFault>
         ensures reply { ForItsEvents self.old (λ nodes slots events. IsReportReply nodes events place result) }
-        ensures after { ForItsEvents self.old (λ nodes slots events. AreAfter nodes slots (events ++ fails place result ∷ []) self.new) }
+        ensures after { ForItsEvents self.old
+            (λ nodes slots events. AreAfter nodes slots (events ++ fails place result ∷ []) self.new) }
         ensures err { OnErr result (self.new ≡ self.old) }
     {
         let place = running_place(self.states.as_slice(), place)?;
@@ -164,7 +167,8 @@ impl Jobs {
 
 // The place, if its node runs.
 fn running_place(states: &[JobState], place: u64) -> Result<usize, JobFault>
-    ensures { MatchResult result (λ p. (p ≡ place) × (place < length states.now) × (state_at states.now place ≡ Running))
+    ensures { MatchResult result (λ p. (p ≡ place) × (place < length states.now)
+        × (state_at states.now place ≡ Running))
         (λ fault. (fault ≡ NotRunning) × ((place < length states.now) × (state_at states.now place ≡ Running) → ⊥)) }
 {
     let place = place as usize;

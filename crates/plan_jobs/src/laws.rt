@@ -7,32 +7,38 @@ ghost use Rattle.plan_jobs.specs.Laws.{HasEnded, IsAtRest, KeepsHeld, StartsAfte
 
 /// When a node starts, all its needs are completed.
 pub fn starts_after_needs()
-    ensures { (nodes : List PlanNode) (slots : ℕ) (events : List Event) → IsHistory nodes slots events → StartsAfterNeeds nodes events }
+    ensures { (nodes : List PlanNode) (slots : ℕ) (events : List Event) → IsHistory nodes slots events
+        → StartsAfterNeeds nodes events }
 {}
 
 /// No node starts twice.
 pub fn starts_once()
-    ensures { (nodes : List PlanNode) (slots : ℕ) (events : List Event) → IsHistory nodes slots events → StartsOnce events }
+    ensures { (nodes : List PlanNode) (slots : ℕ) (events : List Event) → IsHistory nodes slots events
+        → StartsOnce events }
 {}
 
 /// At most as many nodes run as there are slots.
 pub fn at_most_the_slots()
-    ensures { (nodes : List PlanNode) (slots : ℕ) (events : List Event) → IsHistory nodes slots events → running_after nodes events ≤ slots }
+    ensures { (nodes : List PlanNode) (slots : ℕ) (events : List Event) → IsHistory nodes slots events
+        → running_after nodes events ≤ slots }
 {}
 
 /// No held node starts.
 pub fn starts_none_held()
-    ensures { (nodes : List PlanNode) (slots : ℕ) (events : List Event) → IsHistory nodes slots events → StartsNoneHeld nodes events }
+    ensures { (nodes : List PlanNode) (slots : ℕ) (events : List Event) → IsHistory nodes slots events
+        → StartsNoneHeld nodes events }
 {}
 
 /// A held node stays held.
 pub fn stays_held()
-    ensures { (nodes : List PlanNode) (slots : ℕ) (events : List Event) → IsHistory nodes slots events → KeepsHeld nodes events }
+    ensures { (nodes : List PlanNode) (slots : ℕ) (events : List Event) → IsHistory nodes slots events
+        → KeepsHeld nodes events }
 {}
 
 /// If no node runs and none can start, each node is completed, has failed or is held.
 pub fn ends_at_rest()
-    ensures { (nodes : List PlanNode) (events : List Event) → IsAtRest nodes events → (place : ℕ) → place < length nodes → HasEnded nodes events place }
+    ensures { (nodes : List PlanNode) (events : List Event) → IsAtRest nodes events → (place : ℕ)
+        → place < length nodes → HasEnded nodes events place }
 {}
 
 /// At most one reply to a call is right.

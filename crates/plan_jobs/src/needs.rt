@@ -40,12 +40,16 @@ impl Needs {
 
     // Adds a node behind the others.
     fn add(&mut self, alloc: Global, node: &PlanNode) -> Result<(), NoMemory>
-        requires listed_places { All (λ place. place < length self.old.states) (listed_places self.old.places node.now) }
+        requires listed_places { All (λ place. place < length self.old.states)
+            (listed_places self.old.places node.now) }
         requires users { length self.old.users.items ≡ length self.old.states }
         ensures places { OnOk result (AddsPlace self.old.places node.now.id (length self.old.states) self.new.places) }
-        ensures users { OnOk result (self.new.users.items ≡ with_user (length self.old.states) self.old.users.items (listed_places self.old.places node.now) ++ [] ∷ []) }
+        ensures users { OnOk result (self.new.users.items
+            ≡ with_user (length self.old.states) self.old.users.items (listed_places self.old.places node.now) ++ []
+            ∷ []) }
         ensures states { OnOk result (self.new.states ≡ self.old.states ++ first_state node.now ∷ []) }
-        ensures unmet { OnOk result (self.new.unmet ≡ self.old.unmet ++ count_by (is_open self.old.states) (listed_places self.old.places node.now) ∷ []) }
+        ensures unmet { OnOk result (self.new.unmet
+            ≡ self.old.unmet ++ count_by (is_open self.old.states) (listed_places self.old.places node.now) ∷ []) }
     {
         let place = self.states.len();
         let listed_places = listed_places(alloc, &self.places, node)?;

@@ -174,7 +174,8 @@ fn put_end(
     index: &Index,
     counts: Counts,
 ) -> Result<(), NoMemory>
-    ensures { OnOk result (members_view members.new.entries ≡ with_end head.now index.now counts (members_view members.old.entries)) }
+    ensures { OnOk result (members_view members.new.entries
+        ≡ with_end head.now index.now counts (members_view members.old.entries)) }
 {
     let skipped = skipped_list(alloc, index.skipped.as_slice())?;
     let warnings = warning_list(alloc, index.warnings.as_slice())?;

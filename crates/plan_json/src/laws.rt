@@ -12,14 +12,17 @@ ghost use Rattle.plan_json.specs.Values.{conflict_value, gave_up_value, not_shru
 
 /// Each line is the compact text of the answer's value, with a line feed. A compact text has no blanks.
 pub fn compact_texts()
-    ensures plan { (index : TheIndex) (names : NameTable) (trail : List TheChoice) (nodes : List Node) (counts : TheCounts)
+    ensures plan { (index : TheIndex) (names : NameTable) (trail : List TheChoice) (nodes : List Node)
+        (counts : TheCounts)
         → plan_json index names trail nodes counts ≡ line (compact_text (plan_value index names trail nodes counts)) }
     ensures conflict { (index : TheIndex) (names : NameTable) (set : List TheVar) (counts : TheCounts)
         → conflict_json index names set counts ≡ line (compact_text (conflict_value index names set counts)) }
-    ensures shrunk { (index : TheIndex) (names : NameTable) (set : List TheVar) (maps : List (List TheChoice)) (counts : TheCounts)
+    ensures shrunk { (index : TheIndex) (names : NameTable) (set : List TheVar) (maps : List (List TheChoice))
+        (counts : TheCounts)
         → shrunk_json index names set maps counts ≡ line (compact_text (shrunk_value index names set maps counts)) }
     ensures not_shrunk { (index : TheIndex) (names : NameTable) (set : List TheVar) (spent : ℕ) (counts : TheCounts)
-        → not_shrunk_json index names set spent counts ≡ line (compact_text (not_shrunk_value index names set spent counts)) }
+        → not_shrunk_json index names set spent counts
+        ≡ line (compact_text (not_shrunk_value index names set spent counts)) }
     ensures giving_up { (index : TheIndex) (counts : TheCounts)
         → gave_up_json index counts ≡ line (compact_text (gave_up_value index counts)) }
 {}

@@ -34,7 +34,8 @@ pub(crate) fn blame_of<C: Choices, L: Ledger>(
     outcome: &Outcome,
     steps: &mut Steps<L>,
 ) -> Result<Blame, NoMemory>
-    requires { (picking : Picking) × (outcome.now ≡ outcome_of (guided_answer (guide_of picking) (C.problem problem.now) limit)) }
+    requires { (picking : Picking) × (outcome.now
+        ≡ outcome_of (guided_answer (guide_of picking) (C.problem problem.now) limit)) }
     ensures blame { IfOk result (λ blame. blame ≡ blame_of minimize (C.problem problem.now) limit outcome.now) }
     ensures means { IfOk result (MeansBlame minimize (general (C.problem problem.now)) limit outcome.now) }
 {

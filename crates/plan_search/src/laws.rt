@@ -17,7 +17,8 @@ use choice_problem::{ends_right, ends_valid, limit_only_gives_up};
 pub fn what_is_found_is_right()
     ensures { (picking : Picking) (minimize : Bool) (index : Index) (settings : Settings) (finding : Finding)
         → IsSound settings.env index → list_all (λ named. has_package index named.name) settings.project.extra ≡ true
-        → IsFindingOf picking minimize index settings finding → MeansOutcome picking index settings finding.names finding.outcome }
+        → IsFindingOf picking minimize index settings finding
+        → MeansOutcome picking index settings finding.names finding.outcome }
 {
     ends_right();
     ends_valid();

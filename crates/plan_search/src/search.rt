@@ -93,7 +93,8 @@ fn searched<C: Choices, L: Ledger>(
     requires name { blank.name ≡ L.name }
     requires parts { blank.parts ≡ L.parts }
     requires some { 0 < L.parts }
-    ensures outcome { IfOk result (λ found. found.0 ≡ outcome_of (guided_answer (guide_of picking) (C.problem problem.now) limit)) }
+    ensures outcome { IfOk result (λ found. found.0
+        ≡ outcome_of (guided_answer (guide_of picking) (C.problem problem.now) limit)) }
     ensures blame { IfOk result (λ found. found.1 ≡ blame_of minimize (C.problem problem.now) limit found.0) }
     ensures means { IfOk result (λ found. MeansBlame minimize (general (C.problem problem.now)) limit found.0 found.1) }
 {
@@ -110,7 +111,8 @@ fn outcome_of<C: Choices, L: Ledger>(
     limit: Limit,
     steps: &mut Steps<L>,
 ) -> Result<Outcome, NoMemory>
-    ensures { IfOk result (λ outcome. outcome ≡ outcome_of (guided_answer (guide_of picking) (C.problem problem.now) limit)) }
+    ensures { IfOk result (λ outcome. outcome
+        ≡ outcome_of (guided_answer (guide_of picking) (C.problem problem.now) limit)) }
 {
     match picking {
         Picking::Least => search(alloc, problem, limit, steps),

@@ -144,7 +144,8 @@ fn numbered_packages(alloc: Global, packages: &[Package]) -> Result<IndexSet<Tex
 
 fn numbered_flags(alloc: Global, packages: &[Package]) -> Result<IndexSet<Text>, NoMemory>
     ensures rising { IfOk result (λ names. IsStrictlySortedBy (slice_cmp nat_cmp) names.keys) }
-    ensures names { IfOk result (λ names. (name : Name) → is_listed names.keys name ≡ is_listed (flag_names packages.now) name) }
+    ensures names { IfOk result (λ names. (name : Name)
+        → is_listed names.keys name ≡ is_listed (flag_names packages.now) name) }
 {
     let mut names = declared_flags(alloc, packages)?;
     names.sort()?;
@@ -162,7 +163,8 @@ fn declared_flags(alloc: Global, packages: &[Package]) -> Result<IndexSet<Text>,
 }
 
 fn add_package(names: &mut IndexSet<Text>, package: &Package) -> Result<(), NoMemory>
-    ensures { OnOk result (names.new.keys ≡ fold (insert_key same_text) names.old.keys (map (λ f. f.name) (flags_in «package».now))) }
+    ensures { OnOk result (names.new.keys
+        ≡ fold (insert_key same_text) names.old.keys (map (λ f. f.name) (flags_in «package».now))) }
 {
     for entry in package.entries.as_slice() {
         add_flags(names, entry.body.declared_flags())?;

@@ -20,5 +20,6 @@ pub fn some_event_list()
 
 /// The replay of a build has a text.
 pub fn some_replay()
-    ensures { (nodes : List PlanNode) (slots : ℕ) (events : List JobEvent) → (text : List ℕ) × IsReplay nodes slots events text }
+    ensures { (nodes : List PlanNode) (slots : ℕ) (events : List JobEvent)
+        → (text : List ℕ) × IsReplay nodes slots events text }
 {}

@@ -14,7 +14,8 @@ use plan_search::what_is_found_is_right;
 
 /// An index in goal order has a finding.
 pub fn some_finding()
-    ensures { (picking : Picking) (minimize : Bool) (index : Index) (settings : Settings) → AreInGoalOrder index.packages
+    ensures { (picking : Picking) (minimize : Bool) (index : Index) (settings : Settings)
+        → AreInGoalOrder index.packages
         → (finding : Finding) × IsFindingOf picking minimize index settings finding }
 {}
 
@@ -22,7 +23,8 @@ pub fn some_finding()
 /// assignment. If there is none, it finds a conflict set that admits none.
 pub fn first_or_none()
     ensures { (index : Index) (settings : Settings) → IsSound settings.env index
-        → list_all (λ named. has_package index named.name) settings.project.extra ≡ true → EndsUnlimited index settings }
+        → list_all (λ named. has_package index named.name) settings.project.extra ≡ true
+        → EndsUnlimited index settings }
 {
     what_is_found_is_right();
 }

@@ -40,7 +40,8 @@ fn read_top(
     heads: &mut List<HeadField>,
     sections: &mut List<Section>,
 ) -> Result<(), NoMemory>
-    ensures { OnOk result ((behind : Tree) (more : List HeadField) (others : List Section) → Says spec behind more others
+    ensures { OnOk result ((behind : Tree) (more : List HeadField) (others : List Section)
+        → Says spec behind more others
         → (said : List HeadField) × (found : List Section) × Says spec (in_front item.now behind) said found
         × (heads.new ++ more ≡ heads.old ++ said) × (sections.new ++ others ≡ sections.old ++ found)) }
 {
@@ -104,7 +105,8 @@ fn read_section(
 ) -> Result<(), NoMemory>
     ensures { OnOk result ((behind : Tree) (heads : List HeadField) (more : List Section) → Says spec behind heads more
         → (found : List Section)
-        × SectionIs spec (section_kind name.now) line args.now (tree_of items.now) (λ said. Says spec behind heads said) found
+        × SectionIs spec (section_kind name.now) line args.now (tree_of items.now)
+        (λ said. Says spec behind heads said) found
         × (sections.new ++ more ≡ sections.old ++ found)) }
 {
     let Some(kind) = section_kind(name.as_str()) else {

@@ -42,7 +42,8 @@ fn defaults_in(alloc: Global, entries: &[Entry], names: &Names) -> Result<List<D
 
 // The first declaration of a number counts.
 fn flag_defaults(alloc: Global, names: &Names, flags: &[FlagDecl]) -> Result<Defaults, NoMemory>
-    ensures { IfOk result (λ defaults. (f : ℕ) → default_kept defaults f ≡ default_in (find (has_number names.now f) flags.now)) }
+    ensures { IfOk result (λ defaults. (f : ℕ)
+        → default_kept defaults f ≡ default_in (find (has_number names.now f) flags.now)) }
 {
     let mut defaults = IndexMap::new(alloc);
     for decl in flags {

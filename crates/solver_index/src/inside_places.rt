@@ -50,7 +50,8 @@ fn push_block(
     requires block { IsBlock entries.now from to }
     requires versions { has_versions range.now ≡ true }
     requires follows { IsConstantWhere (members range.now) (inside cuts.now) }
-    ensures { OnOk result (found.new ≡ found.old ++ filter (λ i. inside cuts.now (version_at entries.now i)) (between from to)) }
+    ensures { OnOk result (found.new ≡ found.old ++ filter (λ i. inside cuts.now (version_at entries.now i))
+        (between from to)) }
 {
     let mut turns = List::new(alloc);
     push_turns(&mut turns, range, entries, from, to)?;
@@ -72,7 +73,8 @@ fn push_segments(
     requires rising { IsNonDecreasing turns.now }
     requires within { (t : ℕ) → Contains turns.now t → (from ≤ t) × (t ≤ to) }
     requires uniform { AreUniform cuts.now turns.now entries.now from to }
-    ensures { OnOk result (found.new ≡ found.old ++ filter (λ i. inside cuts.now (version_at entries.now i)) (between from to)) }
+    ensures { OnOk result (found.new ≡ found.old ++ filter (λ i. inside cuts.now (version_at entries.now i))
+        (between from to)) }
 {
     let mut first = from as u64;
     for turn in turns {
@@ -92,7 +94,8 @@ fn push_segment(
 ) -> Result<(), NoMemory>
     requires high { last ≤ length entries.now }
     requires uniform { IsUniform cuts.now entries.now first last }
-    ensures { OnOk result (found.new ≡ found.old ++ filter (λ i. inside cuts.now (version_at entries.now i)) (between first last)) }
+    ensures { OnOk result (found.new ≡ found.old ++ filter (λ i. inside cuts.now (version_at entries.now i))
+        (between first last)) }
 {
     if first < last && cuts.has(&entries[first as usize].instance.version) {
         found.push_run(first, last)?;

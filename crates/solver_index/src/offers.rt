@@ -47,7 +47,8 @@ fn push_offering(
     run: PlaceRun,
     entries: &[Entry],
 ) -> Result<(), NoMemory>
-    ensures { OnOk result (allowed.new ≡ allowed.old ++ filter (has_at kind dep.now entries.now) (between run.from run.to)) }
+    ensures { OnOk result (allowed.new
+        ≡ allowed.old ++ filter (has_at kind dep.now entries.now) (between run.from run.to)) }
 {
     let mut first = run.from;
     for place in run.from..run.to {

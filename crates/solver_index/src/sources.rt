@@ -55,7 +55,8 @@ impl<'a> Sources<'a> {
     ) -> Result<Cuts, NoMemory>
         requires ready { AreReady self.now }
         requires versions { has_versions dep.now.range ≡ true }
-        ensures { IfOk result (AreAllowed kind (allowed_versions self.now.project.now owner.now dep.now) dep.now.range) }
+        ensures { IfOk result (AreAllowed kind
+            (allowed_versions self.now.project.now owner.now dep.now) dep.now.range) }
     {
         match kind {
             DepKind::Library => self.relaxed(alloc, owner, dep),
@@ -67,7 +68,8 @@ impl<'a> Sources<'a> {
     fn relaxed(&self, alloc: Global, owner: &Instance, dep: &Dep) -> Result<Cuts, NoMemory>
         requires ready { AreReady self.now }
         requires versions { has_versions dep.now.range ≡ true }
-        ensures { IfOk result (AreAllowed DepKind.Library (allowed_versions self.now.project.now owner.now dep.now) dep.now.range) }
+        ensures { IfOk result (AreAllowed DepKind.Library
+            (allowed_versions self.now.project.now owner.now dep.now) dep.now.range) }
     {
         self.constraints
             .relaxed(alloc, owner, &dep.package, &dep.range)
@@ -230,7 +232,8 @@ impl<'a> Sources<'a> {
     /// What each instance depends on, by package and instance.
     pub(crate) fn dependencies(&self, alloc: Global) -> Result<List<List<Dependencies>>, NoMemory>
         requires { AreReady self.now }
-        ensures { IfOk result (λ made. made ≡ all_dependencies self.now.packages.now self.now.project.now self.now.names.now) }
+        ensures { IfOk result (λ made. made
+            ≡ all_dependencies self.now.packages.now self.now.project.now self.now.names.now) }
     {
         let mut dependencies = List::new(alloc);
         for found in self.packages {

@@ -56,7 +56,8 @@ impl Tables {
         requires versions { packages_have_versions packages.now ≡ true }
         requires blocks { AllAreInBlocks packages.now }
         ensures orders { IfOk result (λ tables. AreOrders project.now packages.now tables.orders) }
-        ensures dependencies { IfOk result (λ tables. tables.dependencies ≡ all_dependencies packages.now project.now names.now) }
+        ensures dependencies { IfOk result
+            (λ tables. tables.dependencies ≡ all_dependencies packages.now project.now names.now) }
         ensures defaults { IfOk result (λ tables. AreDefaults packages.now names.now tables.defaults) }
     {
         let orders = orders_of(alloc, packages, project)?;

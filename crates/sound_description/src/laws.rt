@@ -12,7 +12,8 @@ ghost use Rattle.flatten.specs.Sound.{IsDescription, asked_packages};
 
 /// A description read from elements is sound.
 pub fn descriptions_are_sound()
-    ensures { (items : List Element) (digest : List ℕ) (d : Description) → Describes items digest (Ok d) → IsDescription d }
+    ensures { (items : List Element) (digest : List ℕ) (d : Description) → Describes items digest (Ok d)
+        → IsDescription d }
 {}
 
 /// Its name, its version and the names of the packages that it depends on are well-formed, and it keeps the digest.

@@ -166,7 +166,8 @@ impl<'a> Stanzas<'a> {
         names: &[Text],
         branches: &'a List<Guard>,
     ) -> Result<(), NoMemory>
-        ensures { OnOk result (Grows self.now body.old body.new (λ known. flat_map (imported known branches.now) names.now)) }
+        ensures { OnOk result (Grows self.now body.old body.new
+            (λ known. flat_map (imported known branches.now) names.now)) }
     {
         for name in names {
             self.import_one(body, name, branches)?;
@@ -202,7 +203,8 @@ impl<'a> Stanzas<'a> {
         alloc: Global,
         body: &'b StanzaBody<'a>,
     ) -> Result<Vec<Placed<'a>>, NoMemory>
-        ensures { IfOk result (λ placed. map placed_part placed.items ≡ body_parts (table self.now.bodies.items) body.now) }
+        ensures { IfOk result (λ placed. map placed_part placed.items
+            ≡ body_parts (table self.now.bodies.items) body.now) }
     {
         let mut placed = Vec::new(alloc);
         let mut frames = Vec::new(alloc);
@@ -234,8 +236,10 @@ fn go_on<'b, 'a>(
     placed: &mut Vec<Placed<'a>>,
 ) -> Result<(), NoMemory>
     ensures parts { OnOk result (map placed_part placed.new.items ++ frames_parts frames.new.items
-        ≡ map placed_part placed.old.items ++ (left_parts branches stanzas.now steps.now ++ frames_parts frames.old.items)) }
-    ensures cost { OnOk result (frames_cost frames.new.items < frames_cost frames.old.items + left_cost stanzas.now steps.now) }
+        ≡ map placed_part placed.old.items ++
+        (left_parts branches stanzas.now steps.now ++ frames_parts frames.old.items)) }
+    ensures cost { OnOk result (frames_cost frames.new.items < frames_cost frames.old.items + left_cost stanzas.now
+        steps.now) }
 {
     let [step, rest @ ..] = steps else {
         return Ok(());
@@ -279,7 +283,8 @@ fn enter<'b, 'a>(
 ) -> Result<(), NoMemory>
     ensures parts { OnOk result (frames_parts frames.new.items
         ≡ map (under branches) (get_or (table stanzas.now) stanza []) ++ frames_parts frames.old.items) }
-    ensures cost { OnOk result (frames_cost frames.new.items ≤ frames_cost frames.old.items + (1 + get_or (costs stanzas.now) stanza 0)) }
+    ensures cost { OnOk result (frames_cost frames.new.items ≤ frames_cost frames.old.items +
+        (1 + get_or (costs stanzas.now) stanza 0)) }
 {
     let Some(body) = stanzas.get(stanza) else {
         return Ok(());
@@ -308,7 +313,8 @@ impl<'a> StanzaBody<'a> {
         imported: &StanzaBody<'a>,
         branches: &'a List<Guard>,
     ) -> Result<(), NoMemory>
-        ensures { OnOk result ((stanzas : List StanzaBody) (said parts : List SectionPart) → ExpandsTo stanzas self.old said → stanza < length stanzas
+        ensures { OnOk result ((stanzas : List StanzaBody) (said parts : List SectionPart)
+            → ExpandsTo stanzas self.old said → stanza < length stanzas
             → get_or (table stanzas) stanza [] ≡ parts → imported.now.summary ≡ summary parts
             → ExpandsTo stanzas self.new (said ++ map (under branches.now) parts)) }
     {
@@ -455,7 +461,8 @@ impl<'a> Built<'a> {
 
 /// The number of parts and dependencies of all components, at most 2^64 - 1.
 pub fn total_weight(bodies: &Bodies) -> u64
-    ensures { (sections : List Section) → AreBodiesOf sections bodies.now → result ≡ total_weight (with_imports_replaced sections) }
+    ensures { (sections : List Section) → AreBodiesOf sections bodies.now
+        → result ≡ total_weight (with_imports_replaced sections) }
 {
     let mut weight: u64 = 0;
     for one in bodies.built.as_slice() {
