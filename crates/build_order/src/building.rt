@@ -114,7 +114,12 @@ impl Building {
     }
 
     // A node waits for its first need from a place on that isn't placed; without one it becomes ready.
-    fn wait_or_ready(&mut self, needs: &[List<usize>], node: usize, from: usize) -> Result<(), NoMemory>
+    fn wait_or_ready(
+        &mut self,
+        needs: &[List<usize>],
+        node: usize,
+        from: usize,
+    ) -> Result<(), NoMemory>
         requires graph { IsGraph needs.now }
         requires node { node < length needs.now }
         requires placed { length self.old.placed ≡ length needs.now }

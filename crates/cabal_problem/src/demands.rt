@@ -10,7 +10,7 @@ use crate::variables::{has_benchmark, has_suite, is_top};
 use choice_problem::{Choice, Demand};
 use plan_types::{DepKind, Description, List, NoMemory, Package};
 use qualified_goals::{Part, Qual, Var};
-use solver_index::{ConditionalDep, UnitNeed, Setting, Target, is_local};
+use solver_index::{ConditionalDep, Setting, Target, UnitNeed, is_local};
 use std::alloc::Global;
 
 /// A part of the owner's package, under its qualifier.

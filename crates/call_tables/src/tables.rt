@@ -89,7 +89,11 @@ fn texts_and_conditions(rt: HostRuntime) -> Result<(), Fail> {
     assert_no_others(
         &rt,
         rt.alloc(),
-        &[CallTable::Printed, CallTable::Conditions, CallTable::Outlooks],
+        &[
+            CallTable::Printed,
+            CallTable::Conditions,
+            CallTable::Outlooks,
+        ],
     )
 }
 

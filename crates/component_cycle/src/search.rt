@@ -49,8 +49,12 @@ impl Drop for Search {
 
 impl Search {
     pub(crate) fn new(alloc: Global, nodes: usize) -> Result<Search, NoMemory>
-        ensures { IfOk result (λ s. s ≡ record { states = replicate nodes CycleSearch.Unseen; path = []; waiting = [];
-            marks = [] }) }
+        ensures { IfOk result (λ s. s ≡ record {
+          states = replicate nodes CycleSearch.Unseen;
+          path = [];
+          waiting = [];
+          marks = [];
+        }) }
     {
         Ok(Search {
             states: List::from_vec(vec![in alloc; CycleSearch::Unseen; nodes]?),

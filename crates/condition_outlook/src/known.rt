@@ -122,7 +122,11 @@ fn both(
 
 // The settings of both sides, and whether they agree. If both sides are long, only the latest settings of the first are
 // used, at most 64.
-fn joined(alloc: Global, first: &FlagSettings, second: &FlagSettings) -> Result<(FlagSettings, bool), NoMemory>
+fn joined(
+    alloc: Global,
+    first: &FlagSettings,
+    second: &FlagSettings,
+) -> Result<(FlagSettings, bool), NoMemory>
     ensures { IfOk result (λ both. (flags : Flags) → AreSet flags first.now → AreSet flags second.now
         → AreSet flags both.0 × IsTrue both.1) }
 {
@@ -133,7 +137,11 @@ fn joined(alloc: Global, first: &FlagSettings, second: &FlagSettings) -> Result<
     }
 }
 
-fn added(alloc: Global, long: &FlagSettings, short: &FlagSettings) -> Result<(FlagSettings, bool), NoMemory>
+fn added(
+    alloc: Global,
+    long: &FlagSettings,
+    short: &FlagSettings,
+) -> Result<(FlagSettings, bool), NoMemory>
     ensures { IfOk result (λ both. (flags : Flags) → AreSet flags long.now → AreSet flags short.now
         → AreSet flags both.0 × IsTrue both.1) }
 {

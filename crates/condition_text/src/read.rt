@@ -57,7 +57,12 @@ fn behind(text: &[u8], byte: u8) -> Result<Option<&[u8]>, TextFault>
 // A factor, if any room is left. Each `(` and `!` around a factor takes one of `room`.
 #[cycle(reading)]
 #[tactic(auto, unfolding(crate::specs::Reading::opened_at))]
-fn inner_factor(alloc: Global, spec: Spec, room: u32, text: &[u8]) -> Result<(Cond, &[u8]), TextFault>
+fn inner_factor(
+    alloc: Global,
+    spec: Spec,
+    room: u32,
+    text: &[u8],
+) -> Result<(Cond, &[u8]), TextFault>
     ensures gives { Gives (λ p. (p.0, p.1.now)) result (opened_at (cond_tail spec 64) room text.now) }
     ensures within { IfOk result (λ p. length p.1.now < length text.now) }
 {

@@ -223,7 +223,12 @@ fn swapped(lists: BothPaths) -> BothPaths
     BothPaths { yes: no, no: yes }
 }
 
-fn and(alloc: Global, left: BothPaths, right: BothPaths, need: WantedPaths) -> Result<BothPaths, NoMemory>
+fn and(
+    alloc: Global,
+    left: BothPaths,
+    right: BothPaths,
+    need: WantedPaths,
+) -> Result<BothPaths, NoMemory>
     ensures { IfOk result (λ lists. lists ≡ join_and need left right) }
 {
     let BothPaths { yes, no } = left;
@@ -240,7 +245,12 @@ fn and(alloc: Global, left: BothPaths, right: BothPaths, need: WantedPaths) -> R
     Ok(BothPaths { yes, no })
 }
 
-fn or(alloc: Global, left: BothPaths, right: BothPaths, need: WantedPaths) -> Result<BothPaths, NoMemory>
+fn or(
+    alloc: Global,
+    left: BothPaths,
+    right: BothPaths,
+    need: WantedPaths,
+) -> Result<BothPaths, NoMemory>
     ensures { IfOk result (λ lists. lists ≡ join_or need left right) }
 {
     let BothPaths { yes, no } = left;

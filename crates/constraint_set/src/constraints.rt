@@ -13,7 +13,7 @@ ghost use Rattle.constraint_set.specs.Rules.{is_set, rule_bars, settings_at};
 ghost use Rattle.constraint_set.specs.Stands.{Represents};
 
 use crate::relaxing::Relaxing;
-use crate::rules::{PartOf, Rules, PartRule, is_unit};
+use crate::rules::{PartOf, PartRule, Rules, is_unit};
 use keyed_lists::items_at;
 use plan_types::{Instance, NoMemory, Project, Range, Text};
 use qualified_goals::{Names, Part, Var};

@@ -23,7 +23,11 @@ pub trait EntryKind {
 }
 
 /// Reads the entries of a text.
-pub fn read_entries<R: EntryKind>(alloc: Global, row: &R, text: &[u8]) -> Result<List<R::Item>, TextFault>
+pub fn read_entries<R: EntryKind>(
+    alloc: Global,
+    row: &R,
+    text: &[u8],
+) -> Result<List<R::Item>, TextFault>
     ensures found { IfOk result (HasEntries (R.stands row.now) text.now) }
     ensures fault { IfErr result (Refuses (HasFirstFault (R.stands row.now) (R.fails row.now) text.now)) }
 {

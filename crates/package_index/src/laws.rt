@@ -14,7 +14,7 @@ ghost use Rattle.index_assembly.specs.Index.{IsIndexOf};
 ghost use Rattle.package_index.specs.Extra.{AreMarked, AreNamed, AreThere};
 
 use cabal_file::one_source;
-use sound_description::{descriptions_are_well_formed, descriptions_are_sound};
+use sound_description::{descriptions_are_sound, descriptions_are_well_formed};
 use unit_record::one_record;
 
 /// The index of what was read is sound, over any folder.

@@ -8,4 +8,4 @@ mod build;
 mod laws;
 
 pub use build::build_index;
-pub use laws::{extras_are_there, one_folder_index, indexes_are_sound};
+pub use laws::{extras_are_there, indexes_are_sound, one_folder_index};

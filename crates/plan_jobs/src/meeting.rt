@@ -27,7 +27,12 @@ pub(crate) fn ready_at_first(
 }
 
 /// Counts one need of each of these users as completed. Waiting users with no other such need become ready.
-pub(crate) fn count_down(users: &[usize], states: &[JobState], unmet: &mut List<usize>, ready: &mut Marks)
+pub(crate) fn count_down(
+    users: &[usize],
+    states: &[JobState],
+    unmet: &mut List<usize>,
+    ready: &mut Marks,
+)
     requires within { All (λ user. user < length states.now) users.now }
     requires count { length unmet.old ≡ length states.now }
     requires open { (user : ℕ) → times user users.now ≤ slice_index unmet.old user }

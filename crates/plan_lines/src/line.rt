@@ -199,7 +199,11 @@ fn is_unbuildable(
     }
 }
 
-fn is_unbuildable_one(chosen: &Chosen<'_>, flags: &List<FlagSet>, component: Option<&Component>) -> bool
+fn is_unbuildable_one(
+    chosen: &Chosen<'_>,
+    flags: &List<FlagSet>,
+    component: Option<&Component>,
+) -> bool
     requires { each_once flags.now ≡ true }
     ensures { result ≡ is_unbuildable_one (selection_of chosen.now).env flags.now (option_copied component.entry) }
 {

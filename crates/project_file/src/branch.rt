@@ -115,7 +115,11 @@ fn holds(own: Result<bool, Cause>) -> bool
 }
 
 /// Whether the items inside the branch are read.
-pub(crate) fn is_taken(word: ProjectBranchWord, chain: Option<bool>, own: Result<bool, Cause>) -> bool
+pub(crate) fn is_taken(
+    word: ProjectBranchWord,
+    chain: Option<bool>,
+    own: Result<bool, Cause>,
+) -> bool
     ensures { result ≡ is_taken word chain own }
 {
     holds(own) && !was_taken(word, chain)
@@ -130,7 +134,9 @@ pub(crate) fn chain_behind(
     ensures { result ≡ chain_behind word chain own }
 {
     match word {
-        ProjectBranchWord::If | ProjectBranchWord::Elif => Some(holds(own) || was_taken(word, chain)),
+        ProjectBranchWord::If | ProjectBranchWord::Elif => Some(
+            holds(own) || was_taken(word, chain),
+        ),
         ProjectBranchWord::Else => None,
     }
 }

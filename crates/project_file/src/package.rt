@@ -111,7 +111,11 @@ fn flags_said(alloc: Global, args: &Text, text: &Text) -> Result<ProjectSaid, No
 }
 
 // The flags as a constraint at top level.
-fn flag_constraint(alloc: Global, args: &Text, flags: List<FlagSet>) -> Result<ProjectSaid, NoMemory>
+fn flag_constraint(
+    alloc: Global,
+    args: &Text,
+    flags: List<FlagSet>,
+) -> Result<ProjectSaid, NoMemory>
     ensures { IfOk result (λ said. said ≡ said_flags args.now flags) }
 {
     let package = args.copy()?;

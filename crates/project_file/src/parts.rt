@@ -80,7 +80,11 @@ fn read_item(
     }
 }
 
-fn place(line: u32, said: Option<ProjectSaid>, parts: &mut List<ProjectPart>) -> Result<(), NoMemory>
+fn place(
+    line: u32,
+    said: Option<ProjectSaid>,
+    parts: &mut List<ProjectPart>,
+) -> Result<(), NoMemory>
     ensures { OnOk result (parts.new ≡ parts.old ++ placed line said) }
 {
     match said {

@@ -20,7 +20,7 @@ mod units;
 mod wishes;
 
 pub use defaults::Defaults;
-pub use dependencies::{ConditionalDep, Dependencies, UnitNeed, Setting, Target};
+pub use dependencies::{ConditionalDep, Dependencies, Setting, Target, UnitNeed};
 pub use laws::relaxed_ranges;
 pub use offers::allowed_in;
 pub use place_runs::PlaceRuns;

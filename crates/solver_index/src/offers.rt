@@ -6,7 +6,7 @@ ghost use Rattle.solver_index.specs.PlaceRuns.{places_in};
 ghost use Rattle.solver_index.specs.Allowed.{allowed_in, has_at, has_exe, has_for, has_lib, is_lib};
 ghost use Rattle.plan_types.specs.Bytes.{same_text};
 
-use crate::place_runs::{PlaceRuns, PlaceRun};
+use crate::place_runs::{PlaceRun, PlaceRuns};
 use plan_types::{Body, Dep, DepKind, Entry, LibName, List, NoMemory, Range, Text};
 use std::alloc::Global;
 

@@ -6,7 +6,7 @@ ghost use Rattle.solver_index.specs.AllowedVersions.{allowed_versions};
 ghost use Rattle.solver_index.specs.Places.{flag_number};
 ghost use Rattle.solver_index.specs.Versions.{body_has_versions, deps_have_versions, entries_have_versions, flats_have_versions};
 
-use crate::dependencies::{ConditionalDep, Dependencies, UnitNeed, Setting, Target};
+use crate::dependencies::{ConditionalDep, Dependencies, Setting, Target, UnitNeed};
 use crate::inside_places::places_inside;
 use crate::offers::allowed_by;
 use crate::places::{flag_number, number};

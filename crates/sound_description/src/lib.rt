@@ -5,4 +5,4 @@
 
 mod laws;
 
-pub use laws::{descriptions_are_well_formed, descriptions_are_sound};
+pub use laws::{descriptions_are_sound, descriptions_are_well_formed};

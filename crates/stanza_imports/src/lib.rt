@@ -8,5 +8,5 @@ mod stanzas;
 
 pub use name_set::NameSet;
 pub use stanzas::{
-    Bodies, StanzaBody, Built, Placed, Stanzas, bodies_of, first_bad_visibility, total_weight,
+    Bodies, Built, Placed, StanzaBody, Stanzas, bodies_of, first_bad_visibility, total_weight,
 };

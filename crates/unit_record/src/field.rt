@@ -54,7 +54,11 @@ pub fn said_by(alloc: Global, name: &Text, values: &List<Text>) -> Result<Record
 }
 
 // An unread field isn't joined.
-fn said_as(alloc: Global, word: RecordFieldWord, values: &List<Text>) -> Result<RecordSaid, NoMemory>
+fn said_as(
+    alloc: Global,
+    word: RecordFieldWord,
+    values: &List<Text>,
+) -> Result<RecordSaid, NoMemory>
     ensures { IfOk result (FieldSays word (joined_text values.now)) }
 {
     match word {
