@@ -4,9 +4,9 @@ use Rattle.std.specs.List.{All, Contains, AllPairs}
 use Rattle.std.proofs.lemmas.Bool.{cases_eq, cases_lt, false≢true}
 use Rattle.std.proofs.lemmas.List.{get_or-take, get_or-drop, length-take-le, get_or_past, get_or_default, length_push}
 use Rattle.std.proofs.lemmas.List.Elements.{Contains-push, Contains-push_cases, Contains-append_left}
-use Rattle.component_cycle.specs.declared.search.CycleSearch.{CycleSearch}
-use Rattle.component_cycle.specs.declared.search.CycleSearch.TheVariants.{Unseen, OnPath, Finished}
-use Rattle.component_cycle.specs.declared.search.VisitMark.{VisitMark}
+use Rattle.component_cycle.specs.declared.search.NodeState.{NodeState}
+use Rattle.component_cycle.specs.declared.search.NodeState.TheVariants.{Unseen, OnPath, Finished}
+use Rattle.component_cycle.specs.declared.search.GroupStart.{GroupStart}
 use Rattle.component_cycle.specs.declared.search.Search.{Search}
 use Rattle.component_cycle.specs.Cycle.{IsOnCycle}
 use Rattle.common_laws.specs.Graphs.{Needs, IsPath, last, more}
@@ -14,17 +14,17 @@ use Rattle.component_cycle.specs.Search.{state, at, IsNotBefore, Reaches, IsKnow
 use Rattle.component_cycle.proofs.Reaches.{path-join, path-apart, path-keeps}
 use Rattle.component_cycle.proofs.Joins.{rising-front, rising-last, last-greatest}
 
-module _ (needs : List (List ℕ)) (s : Search) (h : IsSound needs s None) (ms : List VisitMark) (m : VisitMark) (e : s.marks ≡ ms ++ m ∷ []) (idle : length s.waiting ≤ m.waiting) where
+module _ (needs : List (List ℕ)) (s : Search) (h : IsSound needs s None) (ms : List GroupStart) (m : GroupStart) (e : s.marks ≡ ms ++ m ∷ []) (idle : length s.waiting ≤ m.waiting) where
   last-mark : Contains s.marks m
   last-mark = subst (λ l. Contains l m) (sym e) (Contains-push ms m)
 
-  cases : (x : VisitMark) → Contains s.marks x → Contains ms x ⊎ (m ≡ x)
+  cases : (x : GroupStart) → Contains s.marks x → Contains ms x ⊎ (m ≡ x)
   cases x c = Contains-push_cases ms m x (subst (λ l. Contains l x) e c)
 
-  in-old : (x : VisitMark) → Contains ms x → Contains s.marks x
+  in-old : (x : GroupStart) → Contains ms x → Contains s.marks x
   in-old x c = subst (λ l. Contains l x) (sym e) (Contains-append_left ms (m ∷ []) x c)
 
-  greatest : (x : VisitMark) → Contains s.marks x → x.place ≤ m.place
+  greatest : (x : GroupStart) → Contains s.marks x → x.place ≤ m.place
   greatest x c = (last-greatest ms m x (subst (λ l. AllPairs IsBelow l) e h.rising) (subst (λ l. Contains l x) e c)).0
 
   pub group-starts : m.place < length s.path
@@ -117,7 +117,7 @@ module _ (needs : List (List ℕ)) (s : Search) (h : IsSound needs s None) (ms :
               }
         ]
 
-    module _ (states : List CycleSearch) (count : length states ≡ length s.states)
+    module _ (states : List NodeState) (count : length states ≡ length s.states)
         (set : (i : ℕ) → m.place ≤ i → i < length s.path → get_or states (at s i) Unseen ≡ Finished b)
         (others : (u : ℕ) → ((i : ℕ) → m.place ≤ i → i < length s.path → at s i ≢ u) → get_or states u Unseen ≡ state s u) where
       abbrev t : Search
@@ -215,17 +215,17 @@ module _ (needs : List (List ℕ)) (s : Search) (h : IsSound needs s None) (ms :
             | inr out ↦ h.right u d (sym out.1 ∙ k)
           ]
 
-      marked : (x : VisitMark) → Contains ms x → (x.place < length t.path) × (x.waiting ≤ length s.waiting)
+      marked : (x : GroupStart) → Contains ms x → (x.place < length t.path) × (x.waiting ≤ length s.waiting)
       marked x c =
           let less = (rising-last ms m x (subst (λ l. AllPairs IsBelow l) e h.rising) c).0 in
           (omega (arith, less, short), (h.marked x (in-old x c)).1)
 
-      covered : (i : ℕ) → i < length t.path → (x : VisitMark) × Contains ms x × (x.place ≤ i)
+      covered : (i : ℕ) → i < length t.path → (x : GroupStart) × Contains ms x × (x.place ≤ i)
       covered i l =
           let was = h.covered i (in-s i (below i l)) in
           elim (cases was.0 was.1) [
             | inl old ↦ (was.0, old, was.2)
-            | inr same ↦ let is : m.place ≡ was.0.place = ap (λ (x : VisitMark). x.place) same in absurd (omega (arith, is, was.2, below i l))
+            | inr same ↦ let is : m.place ≡ was.0.place = ap (λ (x : GroupStart). x.place) same in absurd (omega (arith, is, was.2, below i l))
           ]
 
       reaches-as : (i j : ℕ) → i < m.place → j < m.place → Reaches needs (at s i) (at s j) → Reaches needs (at t i) (at t j)
@@ -240,7 +240,7 @@ module _ (needs : List (List ℕ)) (s : Search) (h : IsSound needs s None) (ms :
       not-before i j l k x c le =
           elim (cases x c) [
             | inl old ↦ k x old le
-            | inr same ↦ let is : m.place ≡ x.place = ap (λ (y : VisitMark). y.place) same in absurd (omega (arith, is, le, l))
+            | inr same ↦ let is : m.place ≡ x.place = ap (λ (y : GroupStart). y.place) same in absurd (omega (arith, is, le, l))
           ]
 
       back : (i j : ℕ) → i ≤ j → j < length t.path → IsNotBefore t j i → Reaches needs (at t j) (at t i)
@@ -329,7 +329,7 @@ module _ (needs : List (List ℕ)) (s : Search) (h : IsSound needs s None) (ms :
         let low : i - m.place < length group = omega (arith, from, l, group-size) in
         (low, node-at (i - m.place) 0 low ∙ ap (at s) (omega (arith, from)))
 
-    module _ (b : Bool) (cyclic : IsCyclic needs group b) (states : List CycleSearch) (count : length states ≡ length s.states)
+    module _ (b : Bool) (cyclic : IsCyclic needs group b) (states : List NodeState) (count : length states ≡ length s.states)
         (set : (k : ℕ) → k < length group → get_or states (get_or group k 0) Unseen ≡ Finished b)
         (others : (v : ℕ) → (Contains group v → ⊥) → get_or states v Unseen ≡ state s v)
         (spent : (graph : List (List ℕ)) → length s.states ≡ length graph → ((k : ℕ) → k < length group → state s (get_or group k 0) ≢ Unseen) → costs graph states ≡ costs graph s.states) where

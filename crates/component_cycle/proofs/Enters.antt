@@ -5,9 +5,9 @@ use Rattle.std.proofs.lemmas.Bool.{cases_eq, cases_lt}
 use Rattle.std.proofs.lemmas.List.{get_or_append_left, get_or-append-add, get_or_push, length_push, get_or_default}
 use Rattle.std.proofs.lemmas.List.Quantifiers.{all_pairs_push}
 use Rattle.std.proofs.lemmas.List.Elements.{Contains-push, Contains-push_cases, Contains-append_left, Contains-get_or}
-use Rattle.component_cycle.specs.declared.search.CycleSearch.{CycleSearch}
-use Rattle.component_cycle.specs.declared.search.CycleSearch.TheVariants.{Unseen, OnPath, Finished}
-use Rattle.component_cycle.specs.declared.search.VisitMark.{VisitMark}
+use Rattle.component_cycle.specs.declared.search.NodeState.{NodeState}
+use Rattle.component_cycle.specs.declared.search.NodeState.TheVariants.{Unseen, OnPath, Finished}
+use Rattle.component_cycle.specs.declared.search.GroupStart.{GroupStart}
 use Rattle.component_cycle.specs.declared.search.Search.{Search}
 use Rattle.common_laws.specs.Graphs.{Needs}
 use Rattle.component_cycle.specs.Search.{state, at, IsNotBefore, Reaches, IsKnown, settled, on_path, waits, looked_at, HasSource, IsRight, IsBelow, IsSound, AllReach, DoesNotRaise, entered, cost, to_do}
@@ -20,7 +20,7 @@ module _ (needs : List (List ℕ)) (s : Search) (v : ℕ) (h : IsSound needs s (
   abbrev n : ℕ
   n = length s.path
 
-  abbrev mark : VisitMark
+  abbrev mark : GroupStart
   mark = record { place = length s.path; waiting = length s.waiting }
 
   state-here : state t v ≡ OnPath n
@@ -42,7 +42,7 @@ module _ (needs : List (List ℕ)) (s : Search) (v : ℕ) (h : IsSound needs s (
   not-v : (u : ℕ) → state s u ≢ Unseen → u ≢ v
   not-v u ne e = ne (ap (state s) e ∙ unseen)
 
-  kept : (u : ℕ) (x : CycleSearch) → state s u ≡ x → x ≢ Unseen → state t u ≡ x
+  kept : (u : ℕ) (x : NodeState) → state s u ≡ x → x ≢ Unseen → state t u ≡ x
   kept u x e ne = state-other u (not-v u (λ k. ne (sym e ∙ k))) ∙ e
 
   on-apart : (i : ℕ) → OnPath i ≢ Unseen
@@ -87,20 +87,20 @@ module _ (needs : List (List ℕ)) (s : Search) (v : ℕ) (h : IsSound needs s (
   waiting-longer : length s.waiting ≤ length t.waiting
   waiting-longer = omega (arith, length-append s.waiting (get_or needs v []))
 
-  mark-cases : (m : VisitMark) → Contains t.marks m → Contains s.marks m ⊎ (mark ≡ m)
+  mark-cases : (m : GroupStart) → Contains t.marks m → Contains s.marks m ⊎ (mark ≡ m)
   mark-cases m k = Contains-push_cases s.marks mark m k
 
-  marked : (m : VisitMark) → Contains t.marks m → (m.place < length t.path) × (m.waiting ≤ length t.waiting)
+  marked : (m : GroupStart) → Contains t.marks m → (m.place < length t.path) × (m.waiting ≤ length t.waiting)
   marked m k =
       elim (mark-cases m k) [
         | inl old ↦ let was = h.marked m old in (omega (arith, was.0, path-length), omega (arith, was.1, waiting-longer))
-        | inr new ↦ subst (λ (x : VisitMark). (x.place < length t.path) × (x.waiting ≤ length t.waiting)) new (omega (arith, path-length), waiting-longer)
+        | inr new ↦ subst (λ (x : GroupStart). (x.place < length t.path) × (x.waiting ≤ length t.waiting)) new (omega (arith, path-length), waiting-longer)
       ]
 
   rising : AllPairs IsBelow t.marks
   rising = all_pairs_push IsBelow s.marks mark h.rising (λ k d l. h.marked (get_or s.marks k d) (Contains-get_or s.marks k d l))
 
-  covered : (i : ℕ) → i < length t.path → (m : VisitMark) × Contains t.marks m × (m.place ≤ i)
+  covered : (i : ℕ) → i < length t.path → (m : GroupStart) × Contains t.marks m × (m.place ≤ i)
   covered i l =
       elim (last-or-old i l) [
         | inl old ↦ let was = h.covered i old in (was.0, Contains-append_left s.marks (mark ∷ []) was.0 was.1, was.2)
@@ -124,7 +124,7 @@ module _ (needs : List (List ℕ)) (s : Search) (v : ℕ) (h : IsSound needs s (
   not-before-old i j l k m c le =
       elim (mark-cases m c) [
         | inl old ↦ k m old le
-        | inr new ↦ let is : n ≡ m.place = ap (λ (x : VisitMark). x.place) new in absurd (omega (arith, is, le, l))
+        | inr new ↦ let is : n ≡ m.place = ap (λ (x : GroupStart). x.place) new in absurd (omega (arith, is, le, l))
       ]
 
   back : (i j : ℕ) → i ≤ j → j < length t.path → IsNotBefore t j i → Reaches needs (at t j) (at t i)
@@ -147,14 +147,14 @@ module _ (needs : List (List ℕ)) (s : Search) (v : ℕ) (h : IsSound needs s (
       waits x (omega (arith, lx, waiting-longer)) (get_or_append_left s.waiting (get_or needs v []) 0 x lx ∙ e)
       (λ m c le. elim (mark-cases m c) [
         | inl old ↦ k m old le
-        | inr new ↦ let is : n ≡ m.place = ap (λ (x : VisitMark). x.place) new in absurd (omega (arith, is, le, l))
+        | inr new ↦ let is : n ≡ m.place = ap (λ (x : GroupStart). x.place) new in absurd (omega (arith, is, le, l))
       ])
   known-old i w l (looked_at e) =
       let same : v ≡ w = cc e in
       on_path n (ap (state t) (sym same) ∙ state-here)
       (λ m c le. elim (mark-cases m c) [
         | inl old ↦ let was = (h.marked m old).0 in omega (arith, was)
-        | inr new ↦ let is : n ≡ m.place = ap (λ (x : VisitMark). x.place) new in omega (arith, is)
+        | inr new ↦ let is : n ≡ m.place = ap (λ (x : GroupStart). x.place) new in omega (arith, is)
       ])
 
   waiting-new : (k : ℕ) → get_or t.waiting (length s.waiting + k) 0 ≡ get_or (get_or needs v []) k 0
@@ -163,11 +163,11 @@ module _ (needs : List (List ℕ)) (s : Search) (v : ℕ) (h : IsSound needs s (
   waiting-length : length t.waiting ≡ length s.waiting + length (get_or needs v [])
   waiting-length = length-append s.waiting (get_or needs v [])
 
-  marks-wait : (m : VisitMark) → Contains t.marks m → (m.place ≤ n) × (m.waiting ≤ length s.waiting)
+  marks-wait : (m : GroupStart) → Contains t.marks m → (m.place ≤ n) × (m.waiting ≤ length s.waiting)
   marks-wait m c =
       elim (mark-cases m c) [
         | inl old ↦ let was = h.marked m old in (omega (arith, was.0), was.1)
-        | inr new ↦ let is : n ≡ m.place = ap (λ (x : VisitMark). x.place) new in let waits : length s.waiting ≡ m.waiting = ap (λ (x : VisitMark). x.waiting) new in (omega (arith, is), omega (arith, waits))
+        | inr new ↦ let is : n ≡ m.place = ap (λ (x : GroupStart). x.place) new in let waits : length s.waiting ≡ m.waiting = ap (λ (x : GroupStart). x.waiting) new in (omega (arith, is), omega (arith, waits))
       ]
 
   known-new : (w : ℕ) → Needs needs v w → IsKnown t None n w
@@ -195,8 +195,8 @@ module _ (needs : List (List ℕ)) (s : Search) (v : ℕ) (h : IsSound needs s (
               same_group = λ m c. elim (mark-cases m c) [
                 | inl k ↦ was.same_group m k
                 | inr new ↦
-                    let is : n ≡ m.place = ap (λ (x : VisitMark). x.place) new in
-                    let waits : length s.waiting ≡ m.waiting = ap (λ (x : VisitMark). x.waiting) new in
+                    let is : n ≡ m.place = ap (λ (x : GroupStart). x.place) new in
+                    let waits : length s.waiting ≡ m.waiting = ap (λ (x : GroupStart). x.waiting) new in
                     let low = was.within in
                     ((λ le. absurd (omega (arith, is, le, low))), (λ le. absurd (omega (arith, waits, le, old))))
               ];

@@ -4,15 +4,15 @@ use Rattle.std.specs.List.{Contains, AllPairs}
 use Rattle.std.proofs.lemmas.Bool.{cases_lt}
 use Rattle.std.proofs.lemmas.List.{get_or_append_left, get_or_push, length_push, same_from_push}
 use Rattle.std.proofs.lemmas.List.Elements.{Contains-push, Contains-push_cases, Contains-append_left}
-use Rattle.component_cycle.specs.declared.search.CycleSearch.TheVariants.{OnPath, Finished}
-use Rattle.component_cycle.specs.declared.search.VisitMark.{VisitMark}
+use Rattle.component_cycle.specs.declared.search.NodeState.TheVariants.{OnPath, Finished}
+use Rattle.component_cycle.specs.declared.search.GroupStart.{GroupStart}
 use Rattle.component_cycle.specs.declared.search.Search.{Search}
 use Rattle.common_laws.specs.Graphs.{Needs, IsPath, last as one_edge}
 use Rattle.component_cycle.specs.Search.{state, at, IsNotBefore, Reaches, IsKnown, settled, on_path, waits, looked_at, HasSource, IsBelow, IsSound, HasLast, AllReach}
 use Rattle.component_cycle.proofs.Reaches.{reaches-path, path-reaches}
 
 -- marks without the last one
-pub rising-front : (ms : List VisitMark) (m : VisitMark) → AllPairs IsBelow (ms ++ m ∷ []) → AllPairs IsBelow ms
+pub rising-front : (ms : List GroupStart) (m : GroupStart) → AllPairs IsBelow (ms ++ m ∷ []) → AllPairs IsBelow ms
 rising-front ms m h i j d less below =
     let longer = length_push ms m in
     let pair = h i j d less (omega (arith, below, longer)) in
@@ -21,7 +21,7 @@ rising-front ms m h i j d less below =
     subst (λ x. IsBelow x (get_or ms j d)) a (subst (λ y. IsBelow (get_or (ms ++ m ∷ []) i d) y) b pair)
 
 -- the last mark is the greatest
-pub rising-last : (ms : List VisitMark) (m x : VisitMark) → AllPairs IsBelow (ms ++ m ∷ []) → Contains ms x → IsBelow x m
+pub rising-last : (ms : List GroupStart) (m x : GroupStart) → AllPairs IsBelow (ms ++ m ∷ []) → Contains ms x → IsBelow x m
 rising-last ms m x h (k, below, e) =
     let longer = length_push ms m in
     let pair = h k (length ms) x below (omega (arith, longer)) in
@@ -29,47 +29,47 @@ rising-last ms m x h (k, below, e) =
     let b = get_or_push ms m x (length ms) refl in
     subst (λ y. IsBelow y m) a (subst (λ y. IsBelow (get_or (ms ++ m ∷ []) k x) y) b pair)
 
-pub last-greatest : (ms : List VisitMark) (m x : VisitMark) → AllPairs IsBelow (ms ++ m ∷ []) → Contains (ms ++ m ∷ []) x → (x.place ≤ m.place) × (x.waiting ≤ m.waiting)
+pub last-greatest : (ms : List GroupStart) (m x : GroupStart) → AllPairs IsBelow (ms ++ m ∷ []) → Contains (ms ++ m ∷ []) x → (x.place ≤ m.place) × (x.waiting ≤ m.waiting)
 last-greatest ms m x h c =
     elim (Contains-push_cases ms m x c) [
       | inl old ↦ let below = rising-last ms m x h old in (omega (arith, below.0), below.1)
-      | inr e ↦ subst (λ (y : VisitMark). (y.place ≤ m.place) × (y.waiting ≤ m.waiting)) e (omega arith, omega arith)
+      | inr e ↦ subst (λ (y : GroupStart). (y.place ≤ m.place) × (y.waiting ≤ m.waiting)) e (omega arith, omega arith)
     ]
 
-no-mark : (m : VisitMark) → Contains [] m → ⊥
+no-mark : (m : GroupStart) → Contains [] m → ⊥
 no-mark m c = omega (arith, c.1)
 
-abbrev pub with_marks : Search → List VisitMark → Search
+abbrev pub with_marks : Search → List GroupStart → Search
 with_marks s ms = record { states = s.states; path = s.path; waiting = s.waiting; marks = ms }
 
 abbrev pub with_waiting : Search → List ℕ → Search
 with_waiting s waiting = record { states = s.states; path = s.path; waiting = waiting; marks = s.marks }
 
 module _ (needs : List (List ℕ)) (s : Search) (v p : ℕ) (h : IsSound needs s (Some v)) (leads : AllReach needs s v) (here : state s v ≡ OnPath p) where
-  module _ (ms : List VisitMark) (m : VisitMark) (e : s.marks ≡ ms ++ m ∷ []) (later : p < m.place) where
+  module _ (ms : List GroupStart) (m : GroupStart) (e : s.marks ≡ ms ++ m ∷ []) (later : p < m.place) where
     abbrev t : Search
     t = with_marks s ms
 
-    in-old : (x : VisitMark) → Contains ms x → Contains s.marks x
+    in-old : (x : GroupStart) → Contains ms x → Contains s.marks x
     in-old x c = subst (λ l. Contains l x) (sym e) (Contains-append_left ms (m ∷ []) x c)
 
-    cases : (x : VisitMark) → Contains s.marks x → Contains ms x ⊎ (m ≡ x)
+    cases : (x : GroupStart) → Contains s.marks x → Contains ms x ⊎ (m ≡ x)
     cases x c = Contains-push_cases ms m x (subst (λ l. Contains l x) e c)
 
     not-before : (i j : ℕ) → IsNotBefore s i j → IsNotBefore t i j
     not-before i j k x c le = k x (in-old x c) le
 
-    covered : (i : ℕ) → i < length s.path → (x : VisitMark) × Contains ms x × (x.place ≤ i)
+    covered : (i : ℕ) → i < length s.path → (x : GroupStart) × Contains ms x × (x.place ≤ i)
     covered i l =
         let one = h.covered i l in
         elim (cases one.0 one.1) [
           | inl old ↦ (one.0, old, one.2)
           | inr last ↦
-              let is : m.place ≡ one.0.place = ap (λ (x : VisitMark). x.place) last in
+              let is : m.place ≡ one.0.place = ap (λ (x : GroupStart). x.place) last in
               let at-p = h.covered p (h.placed v p here).0 in
               elim (cases at-p.0 at-p.1) [
                 | inl old ↦ (at-p.0, old, omega (arith, at-p.2, later, is, one.2))
-                | inr same ↦ let k : m.place ≡ at-p.0.place = ap (λ (x : VisitMark). x.place) same in absurd (omega (arith, k, at-p.2, later))
+                | inr same ↦ let k : m.place ≡ at-p.0.place = ap (λ (x : GroupStart). x.place) same in absurd (omega (arith, k, at-p.2, later))
               ]
         ]
 
@@ -79,7 +79,7 @@ module _ (needs : List (List ℕ)) (s : Search) (v p : ℕ) (h : IsSound needs s
           | inl less ↦
               h.back i j le l (λ x c below. elim (cases x c) [
                 | inl old ↦ k x old below
-                | inr same ↦ let is : m.place ≡ x.place = ap (λ (y : VisitMark). y.place) same in absurd (omega (arith, is, below, less))
+                | inr same ↦ let is : m.place ≡ x.place = ap (λ (y : GroupStart). y.place) same in absurd (omega (arith, is, below, less))
               ])
           | inr ge ↦
               let place = h.placed v p here in
@@ -89,7 +89,7 @@ module _ (needs : List (List ℕ)) (s : Search) (v p : ℕ) (h : IsSound needs s
                 | inl before ↦
                     inr (path-reaches needs (at s j) (at s p) (at s i) to-p (h.back i p (omega (arith, before)) place.0 (λ x c below. elim (cases x c) [
                       | inl old ↦ k x old (omega (arith, below, later, ge))
-                      | inr same ↦ let is : m.place ≡ x.place = ap (λ (y : VisitMark). y.place) same in absurd (omega (arith, is, below, later))
+                      | inr same ↦ let is : m.place ≡ x.place = ap (λ (y : GroupStart). y.place) same in absurd (omega (arith, is, below, later))
                     ])))
               ]
         ]
@@ -118,14 +118,14 @@ module _ (needs : List (List ℕ)) (s : Search) (v p : ℕ) (h : IsSound needs s
               record { place = was.place; within = was.within; edge = was.edge; same_group = λ x c. was.same_group x (in-old x c) };
         }
 
-  known-done : ((x : VisitMark) → Contains s.marks x → x.place ≤ p) → (i w : ℕ) → IsKnown s (Some v) i w → IsKnown s None i w
+  known-done : ((x : GroupStart) → Contains s.marks x → x.place ≤ p) → (i w : ℕ) → IsKnown s (Some v) i w → IsKnown s None i w
   known-done low i w (settled b k) = settled b k
   known-done low i w (on_path q k f) = on_path q k f
   known-done low i w (waits l below k f) = waits l below k f
   known-done low i w (looked_at k) = let same : v ≡ w = cc k in on_path p (ap (state s) (sym same) ∙ here) (λ x c le. low x c)
 
   -- all groups are merged
-  pub joined-done : ((x : VisitMark) → Contains s.marks x → x.place ≤ p) → IsSound needs s None
+  pub joined-done : ((x : GroupStart) → Contains s.marks x → x.place ≤ p) → IsSound needs s None
   joined-done low =
       record {
         count = h.count;
@@ -143,7 +143,7 @@ module _ (needs : List (List ℕ)) (s : Search) (v p : ℕ) (h : IsSound needs s
       }
 
   -- the same if the last group doesn't begin after the place
-  pub joined-all : (s.marks ≡ []) ⊎ HasLast s.marks (λ m. m.place ≤ p) → (x : VisitMark) → Contains s.marks x → x.place ≤ p
+  pub joined-all : (s.marks ≡ []) ⊎ HasLast s.marks (λ m. m.place ≤ p) → (x : GroupStart) → Contains s.marks x → x.place ≤ p
   joined-all (inl none) x k = absurd (no-mark x (subst (λ l. Contains l x) none k))
   joined-all (inr (m, (front, is), low)) x k =
       let top = last-greatest front m x (subst (λ l. AllPairs IsBelow l) is h.rising) (subst (λ l. Contains l x) is k) in
@@ -175,11 +175,11 @@ module _ (needs : List (List ℕ)) (s : Search) (v : ℕ) (h : IsSound needs s (
       }
 
 -- an edge is taken from the last group
-module _ (needs : List (List ℕ)) (s : Search) (h : IsSound needs s None) (ms : List VisitMark) (m : VisitMark) (e : s.marks ≡ ms ++ m ∷ []) (rest : List ℕ) (v : ℕ) (last : s.waiting ≡ rest ++ v ∷ []) (some : m.waiting ≤ length rest) where
+module _ (needs : List (List ℕ)) (s : Search) (h : IsSound needs s None) (ms : List GroupStart) (m : GroupStart) (e : s.marks ≡ ms ++ m ∷ []) (rest : List ℕ) (v : ℕ) (last : s.waiting ≡ rest ++ v ∷ []) (some : m.waiting ≤ length rest) where
   abbrev popped : Search
   popped = with_waiting s rest
 
-  greatest : (x : VisitMark) → Contains s.marks x → (x.place ≤ m.place) × (x.waiting ≤ m.waiting)
+  greatest : (x : GroupStart) → Contains s.marks x → (x.place ≤ m.place) × (x.waiting ≤ m.waiting)
   greatest x c = last-greatest ms m x (subst (λ l. AllPairs IsBelow l) e h.rising) (subst (λ l. Contains l x) e c)
 
   last-mark : Contains s.marks m

@@ -1,15 +1,15 @@
 -- The invariant of the search.
 use Rattle.std.specs.Prelude.{◌≡◌, ◌≢◌, ◌↔◌, ◌⊎◌, ℕ, ◌+◌, ◌<◌, ◌≤◌, Bool, true, false, List, [], ◌∷◌, ◌++◌, length, Option, Some, None, IsTrue, Contains, slice_index, slice_index_or, slice_set}
 use Rattle.std.specs.List.{AllPairs}
-use Rattle.component_cycle.specs.declared.search.CycleSearch.{CycleSearch}
-use Rattle.component_cycle.specs.declared.search.CycleSearch.TheVariants.{Unseen, OnPath, Finished}
-use Rattle.component_cycle.specs.declared.search.VisitMark.{VisitMark}
+use Rattle.component_cycle.specs.declared.search.NodeState.{NodeState}
+use Rattle.component_cycle.specs.declared.search.NodeState.TheVariants.{Unseen, OnPath, Finished}
+use Rattle.component_cycle.specs.declared.search.GroupStart.{GroupStart}
 use Rattle.component_cycle.specs.declared.search.Search.{Search}
 use Rattle.component_cycle.specs.Cycle.{IsOnCycle}
 use Rattle.common_laws.specs.Graphs.{Needs, IsPath}
 
 -- the state of a node
-abbrev pub state : Search → ℕ → CycleSearch
+abbrev pub state : Search → ℕ → NodeState
 state s v = slice_index_or s.states v Unseen
 
 -- the node at a place of the path
@@ -17,16 +17,16 @@ abbrev pub at : Search → ℕ → ℕ
 at s i = slice_index s.path i
 
 -- the last mark
-abbrev pub IsLast : List VisitMark → VisitMark → Type 0
-IsLast marks m = (front : List VisitMark) × (marks ≡ front ++ m ∷ [])
+abbrev pub IsLast : List GroupStart → GroupStart → Type 0
+IsLast marks m = (front : List GroupStart) × (marks ≡ front ++ m ∷ [])
 
 -- there is a last mark, with this property
-abbrev pub HasLast : List VisitMark → (VisitMark → Type 0) → Type 0
-HasLast marks P = (m : VisitMark) × IsLast marks m × P m
+abbrev pub HasLast : List GroupStart → (GroupStart → Type 0) → Type 0
+HasLast marks P = (m : GroupStart) × IsLast marks m × P m
 
 -- place j isn't before the group of place i
 abbrev pub IsNotBefore : Search → ℕ → ℕ → Type 0
-IsNotBefore s i j = (m : VisitMark) → Contains s.marks m → m.place ≤ i → m.place ≤ j
+IsNotBefore s i j = (m : GroupStart) → Contains s.marks m → m.place ≤ i → m.place ≤ j
 
 -- v is u, or is reachable from u
 abbrev pub Reaches : List (List ℕ) → ℕ → ℕ → Type 0
@@ -37,7 +37,7 @@ Reaches needs u v = (u ≡ v) ⊎ IsPath (Needs needs) u v
 pub data IsKnown (s : Search) (loose : Option ℕ) (i v : ℕ) : Type 0 where
   settled : (b : Bool) → state s v ≡ Finished b → IsKnown s loose i v
   on_path : (p : ℕ) → state s v ≡ OnPath p → IsNotBefore s i p → IsKnown s loose i v
-  waits : (l : ℕ) → l < length s.waiting → slice_index s.waiting l ≡ v → ((m : VisitMark) → Contains s.marks m → m.place ≤ i → m.waiting ≤ l) → IsKnown s loose i v
+  waits : (l : ℕ) → l < length s.waiting → slice_index s.waiting l ≡ v → ((m : GroupStart) → Contains s.marks m → m.place ≤ i → m.waiting ≤ l) → IsKnown s loose i v
   looked_at : loose ≡ Some v → IsKnown s loose i v
 
 -- a waiting target has an edge from a node of the same group
@@ -45,7 +45,7 @@ pub record HasSource (needs : List (List ℕ)) (s : Search) (l : ℕ) : Type 0 w
   pub place : ℕ
   pub within : place < length s.path
   pub edge : Needs needs (at s place) (slice_index s.waiting l)
-  pub same_group : (m : VisitMark) → Contains s.marks m → (m.place ≤ place ↔ m.waiting ≤ l)
+  pub same_group : (m : GroupStart) → Contains s.marks m → (m.place ≤ place ↔ m.waiting ≤ l)
 
 -- a settled node lies on a cycle iff its state is `Settled(true)`
 pub record IsRight (needs : List (List ℕ)) (u : ℕ) (b : Bool) : Type 0 where
@@ -53,7 +53,7 @@ pub record IsRight (needs : List (List ℕ)) (u : ℕ) (b : Bool) : Type 0 where
   pub none : b ≡ false → IsOnCycle needs u → ⊥
 
 -- a mark is before another
-abbrev pub IsBelow : VisitMark → VisitMark → Type 0
+abbrev pub IsBelow : GroupStart → GroupStart → Type 0
 IsBelow m n = (m.place < n.place) × (m.waiting ≤ n.waiting)
 
 -- the invariant: of settled nodes, of the path and its groups, and of waiting targets
@@ -63,9 +63,9 @@ pub record IsSound (needs : List (List ℕ)) (s : Search) (loose : Option ℕ) :
   pub standing : (i : ℕ) → i < length s.path → state s (at s i) ≡ OnPath i
   pub closed : (u v : ℕ) (b : Bool) → state s u ≡ Finished b → Needs needs u v → (d : Bool) × (state s v ≡ Finished d)
   pub right : (u : ℕ) (b : Bool) → state s u ≡ Finished b → IsRight needs u b
-  pub marked : (m : VisitMark) → Contains s.marks m → (m.place < length s.path) × (m.waiting ≤ length s.waiting)
+  pub marked : (m : GroupStart) → Contains s.marks m → (m.place < length s.path) × (m.waiting ≤ length s.waiting)
   pub rising : AllPairs IsBelow s.marks
-  pub covered : (i : ℕ) → i < length s.path → (m : VisitMark) × Contains s.marks m × (m.place ≤ i)
+  pub covered : (i : ℕ) → i < length s.path → (m : GroupStart) × Contains s.marks m × (m.place ≤ i)
   pub forward : (i j : ℕ) → i ≤ j → j < length s.path → Reaches needs (at s i) (at s j)
   pub back : (i j : ℕ) → i ≤ j → j < length s.path → IsNotBefore s j i → Reaches needs (at s j) (at s i)
   pub known : (i v : ℕ) → i < length s.path → Needs needs (at s i) v → IsKnown s loose i v
@@ -86,21 +86,21 @@ entered needs v s =
     }
 
 -- these nodes are settled
-abbrev pub AreSettled : List ℕ → Bool → List CycleSearch → Type 0
-AreSettled nodes on_cycle states = (i : ℕ) → i < length nodes → slice_index_or states (slice_index nodes i) Unseen ≡ Finished on_cycle
+abbrev pub AreFinished : List ℕ → Bool → List NodeState → Type 0
+AreFinished nodes on_cycle states = (i : ℕ) → i < length nodes → slice_index_or states (slice_index nodes i) Unseen ≡ Finished on_cycle
 
 -- the state of no other node changes
-abbrev pub OthersStay : List ℕ → List CycleSearch → List CycleSearch → Type 0
+abbrev pub OthersStay : List ℕ → List NodeState → List NodeState → Type 0
 OthersStay nodes old new = (v : ℕ) → (Contains nodes v → ⊥) → slice_index_or new v Unseen ≡ slice_index_or old v Unseen
 
 -- the remaining work for a node in this state
-abbrev pub cost : List ℕ → CycleSearch → ℕ
+abbrev pub cost : List ℕ → NodeState → ℕ
 cost ns Unseen = length ns + 2
 cost ns (OnPath i) = 0
 cost ns (Finished b) = 0
 
 -- the remaining work for all nodes
-abbrev pub costs : List (List ℕ) → List CycleSearch → ℕ
+abbrev pub costs : List (List ℕ) → List NodeState → ℕ
 costs [] states = 0
 costs (ns ∷ needs) [] = 0
 costs (ns ∷ needs) (x ∷ states) = cost ns x + costs needs states
@@ -124,7 +124,7 @@ abbrev pub DoesNotRaise : List (List ℕ) → Search → Search → Type 0
 DoesNotRaise needs s t = GoesOn needs s t (to_do needs s + 1)
 
 -- whether a node is settled and lies on a cycle
-abbrev pub is_on_cycle : CycleSearch → Bool
+abbrev pub is_on_cycle : NodeState → Bool
 is_on_cycle Unseen = false
 is_on_cycle (OnPath i) = false
 is_on_cycle (Finished b) = b
@@ -135,6 +135,6 @@ pub record IsCyclic (needs : List (List ℕ)) (group : List ℕ) (b : Bool) : Ty
   pub alone : length group ≡ 1 → (IsTrue b ↔ Needs needs (slice_index group 0) (slice_index group 0))
 
 -- if these nodes were seen before, the remaining work is the same
-abbrev pub SeenCostNothing : List ℕ → List CycleSearch → List CycleSearch → Type 0
+abbrev pub SeenCostNothing : List ℕ → List NodeState → List NodeState → Type 0
 SeenCostNothing nodes old new = (needs : List (List ℕ)) → length old ≡ length needs
     → ((i : ℕ) → i < length nodes → slice_index_or old (slice_index nodes i) Unseen ≢ Unseen) → costs needs new ≡ costs needs old

@@ -1,19 +1,19 @@
 // The path-based algorithm for strongly connected components. The path is cut into groups. The nodes of a group reach
 // each other, and each group has an edge into the next. A step takes an edge from the last group. An unseen target
 // becomes a new last group; a target on the path merges all groups from its own on. A last group without further edges
-// is a whole strongly connected component, and is settled.
+// is a whole strongly connected component, and is finished.
 ghost use Rattle.std.specs.Prelude.{◌≡◌, ◌≢◌, ◌≤◌, ◌<◌, ◌↔◌, ◌⊎◌, ℕ, List, [], ◌++◌, length, IsTrue, IfOk, OnOk, MatchOption, true, false, All, Contains, drop, slice_index, slice_index_or, replicate, position};
-ghost use Rattle.component_cycle.specs.declared.search.CycleSearch.{CycleSearch};
-ghost use Rattle.component_cycle.specs.declared.search.VisitMark.{VisitMark};
+ghost use Rattle.component_cycle.specs.declared.search.NodeState.{NodeState};
+ghost use Rattle.component_cycle.specs.declared.search.GroupStart.{GroupStart};
 ghost use Rattle.common_laws.specs.Graphs.{IsGraph};
-ghost use Rattle.component_cycle.specs.Search.{IsSound, IsLast, HasLast, DoesNotRaise, AllReach, entered, costs, state, Lowers, IsCyclic, is_on_cycle, AreSettled, OthersStay, SeenCostNothing};
+ghost use Rattle.component_cycle.specs.Search.{IsSound, IsLast, HasLast, DoesNotRaise, AllReach, entered, costs, state, Lowers, IsCyclic, is_on_cycle, AreFinished, OthersStay, SeenCostNothing};
 
 use plan_types::{List, NoMemory};
 use std::alloc::Global;
 
 /// The state of a node.
 #[derive(Clone, Copy, Drop)]
-pub(crate) enum CycleSearch {
+pub(crate) enum NodeState {
     Unseen,
     /// On the path, at this place.
     OnPath(usize),
@@ -23,16 +23,16 @@ pub(crate) enum CycleSearch {
 
 /// The start of a group on the path, and of its targets in `waiting`.
 #[derive(Clone, Copy, Drop)]
-pub(crate) struct VisitMark {
+pub(crate) struct GroupStart {
     pub place: usize,
     pub waiting: usize,
 }
 
 pub(crate) struct Search {
-    pub states: List<CycleSearch>,
+    pub states: List<NodeState>,
     pub path: List<usize>,
     pub waiting: List<usize>,
-    pub marks: List<VisitMark>,
+    pub marks: List<GroupStart>,
 }
 
 // Explicit, so that it is proved once: a derived one is expanded at each exit.
@@ -50,14 +50,14 @@ impl Drop for Search {
 impl Search {
     pub(crate) fn new(alloc: Global, nodes: usize) -> Result<Search, NoMemory>
         ensures { IfOk result (λ s. s ≡ record {
-          states = replicate nodes CycleSearch.Unseen;
+          states = replicate nodes NodeState.Unseen;
           path = [];
           waiting = [];
           marks = [];
         }) }
     {
         Ok(Search {
-            states: List::from_vec(vec![in alloc; CycleSearch::Unseen; nodes]?),
+            states: List::from_vec(vec![in alloc; NodeState::Unseen; nodes]?),
             path: List::new(alloc),
             waiting: List::new(alloc),
             marks: List::new(alloc),
@@ -70,11 +70,11 @@ impl Search {
         requires count { length self.old.states ≡ length needs.now }
         ensures { OnOk result (self.new ≡ entered needs.now node self.old) }
     {
-        self.marks.push(VisitMark {
+        self.marks.push(GroupStart {
             place: self.path.len(),
             waiting: self.waiting.len(),
         })?;
-        self.states.set(node, CycleSearch::OnPath(self.path.len()));
+        self.states.set(node, NodeState::OnPath(self.path.len()));
         self.path.push(node)?;
         push_all(&mut self.waiting, needs[node].as_slice())
     }
@@ -87,9 +87,9 @@ impl Search {
         requires marks { self.old.marks ≡ [] }
         ensures sound { OnOk result (IsSound needs.now self.new None) }
         ensures marks { OnOk result (self.new.marks ≡ []) }
-        ensures root { OnOk result (state self.new root ≢ CycleSearch.Unseen) }
-        ensures seen { OnOk result ((v : ℕ) → state self.old v ≢ CycleSearch.Unseen
-            → state self.new v ≢ CycleSearch.Unseen) }
+        ensures root { OnOk result (state self.new root ≢ NodeState.Unseen) }
+        ensures seen { OnOk result ((v : ℕ) → state self.old v ≢ NodeState.Unseen
+            → state self.new v ≢ NodeState.Unseen) }
     {
         if !self.is_unseen(root) {
             return Ok(());
@@ -103,16 +103,16 @@ impl Search {
 
     fn is_unseen(&self, node: usize) -> bool
         requires { node < length self.now.states }
-        ensures { IsTrue result ↔ (state self.now node ≡ CycleSearch.Unseen) }
+        ensures { IsTrue result ↔ (state self.now node ≡ NodeState.Unseen) }
     {
         match self.states.as_slice()[node] {
-            CycleSearch::Unseen => true,
-            CycleSearch::OnPath(_) => false,
-            CycleSearch::Finished(_) => false,
+            NodeState::Unseen => true,
+            NodeState::OnPath(_) => false,
+            NodeState::Finished(_) => false,
         }
     }
 
-    fn last_mark(&self) -> Option<VisitMark>
+    fn last_mark(&self) -> Option<GroupStart>
         ensures { MatchOption result (self.now.marks ≡ []) (λ m. IsLast self.now.marks m) }
     {
         self.marks.as_slice().last().copied()
@@ -130,7 +130,7 @@ impl Search {
     }
 
     // Takes an edge from the last group, or settles the group if no edge is left.
-    fn step(&mut self, needs: &[List<usize>], mark: VisitMark) -> Result<(), NoMemory>
+    fn step(&mut self, needs: &[List<usize>], mark: GroupStart) -> Result<(), NoMemory>
         requires graph { IsGraph needs.now }
         requires sound { IsSound needs.now self.old None }
         requires mark { IsLast self.old.marks mark }
@@ -154,19 +154,19 @@ impl Search {
         ensures { OnOk result (DoesNotRaise needs.now self.old self.new) }
     {
         match self.states.as_slice()[node] {
-            CycleSearch::Unseen => self.enter(needs, node),
-            CycleSearch::OnPath(place) => {
+            NodeState::Unseen => self.enter(needs, node),
+            NodeState::OnPath(place) => {
                 while self.begins_behind(place) {
                     self.marks.pop();
                 }
                 Ok(())
             }
-            CycleSearch::Finished(_) => Ok(()),
+            NodeState::Finished(_) => Ok(()),
         }
     }
 
     // Settles the last group.
-    fn close(&mut self, needs: &[List<usize>], mark: VisitMark)
+    fn close(&mut self, needs: &[List<usize>], mark: GroupStart)
         requires sound { IsSound needs.now self.old None }
         requires mark { IsLast self.old.marks mark }
         requires none { length self.old.waiting ≤ mark.waiting }
@@ -198,13 +198,13 @@ fn behind(path: &List<usize>, place: usize) -> &[usize]
     &path.as_slice()[place..]
 }
 
-fn is_on_cycle(state: CycleSearch) -> bool
+fn is_on_cycle(state: NodeState) -> bool
     ensures { result ≡ is_on_cycle state }
 {
     match state {
-        CycleSearch::Unseen => false,
-        CycleSearch::OnPath(_) => false,
-        CycleSearch::Finished(on_cycle) => on_cycle,
+        NodeState::Unseen => false,
+        NodeState::OnPath(_) => false,
+        NodeState::Finished(on_cycle) => on_cycle,
     }
 }
 
@@ -219,15 +219,15 @@ fn is_cyclic(needs: &[List<usize>], group: &[usize]) -> bool
     }
 }
 
-fn finish_all(states: &mut List<CycleSearch>, nodes: &[usize], on_cycle: bool)
+fn finish_all(states: &mut List<NodeState>, nodes: &[usize], on_cycle: bool)
     requires inside { All (λ v. v < length states.old) nodes.now }
     ensures count { length states.new ≡ length states.old }
-    ensures settled { AreSettled nodes.now on_cycle states.new }
+    ensures settled { AreFinished nodes.now on_cycle states.new }
     ensures others { OthersStay nodes.now states.old states.new }
     ensures costs { SeenCostNothing nodes.now states.old states.new }
 {
     for node in nodes {
-        states.set(*node, CycleSearch::Finished(on_cycle));
+        states.set(*node, NodeState::Finished(on_cycle));
     }
 }
 

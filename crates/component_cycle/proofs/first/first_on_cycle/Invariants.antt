@@ -1,5 +1,5 @@
 use Rattle.std.proofs.Common.{◌≡◌, ◌≢◌, ◌<◌, ℕ, [], None}
-use Rattle.component_cycle.specs.declared.search.CycleSearch.TheVariants.{Unseen}
+use Rattle.component_cycle.specs.declared.search.NodeState.TheVariants.{Unseen}
 use Rattle.component_cycle.specs.Search.{IsSound, state}
 use Rattle.component_cycle.proofs.first.first_on_cycle.Given as goal
 

@@ -1,7 +1,7 @@
 use Rattle.std.proofs.Common.{◌≡◌, ◌<◌, List, [], length, get_or, set, sym, ap, ◌∙◌, subst, inl, inr, arith, get_or-set_same, get_or-set_other, length-set}
 use Rattle.std.proofs.lemmas.Bool.{cases_eq}
-use Rattle.component_cycle.specs.declared.search.CycleSearch.{CycleSearch}
-use Rattle.component_cycle.specs.declared.search.CycleSearch.TheVariants.{Unseen, Finished}
+use Rattle.component_cycle.specs.declared.search.NodeState.{NodeState}
+use Rattle.component_cycle.specs.declared.search.NodeState.TheVariants.{Unseen, Finished}
 use Rattle.component_cycle.specs.Search.{costs}
 use Rattle.component_cycle.proofs.Costs.{costs-set, cost-seen}
 use Rattle.component_cycle.proofs.search.finish_all.Goals as goal
@@ -20,19 +20,19 @@ loop-node-preserved c =
     record {
       count = ap length is ∙ length-set states node x ∙ inv.count;
       settled = λ i h. elim (cases_eq (get_or c.args.nodes.now i 0) node) [
-        | inl e ↦ subst (λ v. get_or c.set.new.self v Unseen ≡ x) (sym e) (ap (λ (ss : List CycleSearch). get_or ss node Unseen) is ∙ get_or-set_same states node x Unseen inside)
+        | inl e ↦ subst (λ v. get_or c.set.new.self v Unseen ≡ x) (sym e) (ap (λ (ss : List NodeState). get_or ss node Unseen) is ∙ get_or-set_same states node x Unseen inside)
         | inr ne ↦
             let k : i < j = elim (cases_eq i j) [ inl e ↦ absurd (ne (ap (λ n. get_or c.args.nodes.now n 0) e)) | inr n ↦ omega (arith, h, n) ] in
-            ap (λ (ss : List CycleSearch). get_or ss (get_or c.args.nodes.now i 0) Unseen) is ∙ get_or-set_other states node (get_or c.args.nodes.now i 0) x Unseen ne ∙ inv.settled i k
+            ap (λ (ss : List NodeState). get_or ss (get_or c.args.nodes.now i 0) Unseen) is ∙ get_or-set_other states node (get_or c.args.nodes.now i 0) x Unseen ne ∙ inv.settled i k
       ];
       others = λ v h.
-          ap (λ (ss : List CycleSearch). get_or ss v Unseen) is ∙ get_or-set_other states node v x Unseen (λ e. h j (omega arith) (sym e)) ∙ inv.others v (λ i k. h i (omega (arith, k)));
+          ap (λ (ss : List NodeState). get_or ss v Unseen) is ∙ get_or-set_other states node v x Unseen (λ e. h j (omega arith) (sym e)) ∙ inv.others v (λ i k. h i (omega (arith, k)));
       seen = λ v h e.
           elim (cases_eq v node) [
             | inl same ↦
-                let now : get_or c.set.new.self v Unseen ≡ x = subst (λ u. get_or c.set.new.self u Unseen ≡ x) (sym same) (ap (λ (ss : List CycleSearch). get_or ss node Unseen) is ∙ get_or-set_same states node x Unseen inside) in
+                let now : get_or c.set.new.self v Unseen ≡ x = subst (λ u. get_or c.set.new.self u Unseen ≡ x) (sym same) (ap (λ (ss : List NodeState). get_or ss node Unseen) is ∙ get_or-set_same states node x Unseen inside) in
                 absurd (cc (now, e))
-            | inr ne ↦ inv.seen v h (sym (ap (λ (ss : List CycleSearch). get_or ss v Unseen) is ∙ get_or-set_other states node v x Unseen ne) ∙ e)
+            | inr ne ↦ inv.seen v h (sym (ap (λ (ss : List NodeState). get_or ss v Unseen) is ∙ get_or-set_other states node v x Unseen ne) ∙ e)
           ];
       costs = λ needs len h.
           let seen = inv.seen node (h j below) in

@@ -1,5 +1,5 @@
 use Rattle.std.proofs.Common.{◌≡◌, ◌≢◌, ℕ, ◌<◌, List, length, get_or}
-use Rattle.component_cycle.specs.declared.search.CycleSearch.TheVariants.{Unseen, Finished}
+use Rattle.component_cycle.specs.declared.search.NodeState.TheVariants.{Unseen, Finished}
 use Rattle.component_cycle.specs.Search.{costs}
 use Rattle.component_cycle.proofs.search.finish_all.Given as goal
 

@@ -1,5 +1,5 @@
 use Rattle.std.proofs.Common.{◌≡◌, ◌≢◌, None, sym, subst}
-use Rattle.component_cycle.specs.declared.search.CycleSearch.TheVariants.{Unseen}
+use Rattle.component_cycle.specs.declared.search.NodeState.TheVariants.{Unseen}
 use Rattle.component_cycle.specs.Search.{IsSound, state}
 use Rattle.component_cycle.proofs.Enters.{entered-sound, entered-seen, entered-root}
 use Rattle.component_cycle.proofs.Ends.{root-sound, root-leads}

@@ -1,8 +1,8 @@
 use Rattle.std.proofs.Common.{◌≡◌, ◌≢◌, List, length, Some, get_or, sym, ap, ◌∙◌, subst, arith}
 use Rattle.std.proofs.lemmas.List.{length_push}
 use Rattle.std.proofs.lemmas.Result.{on_ok_weaker}
-use Rattle.component_cycle.specs.declared.search.CycleSearch.{CycleSearch}
-use Rattle.component_cycle.specs.declared.search.CycleSearch.TheVariants.{Unseen, Finished}
+use Rattle.component_cycle.specs.declared.search.NodeState.{NodeState}
+use Rattle.component_cycle.specs.declared.search.NodeState.TheVariants.{Unseen, Finished}
 use Rattle.component_cycle.specs.Search.{state, IsSound, DoesNotRaise, costs}
 use Rattle.component_cycle.proofs.Enters.{entered-follows}
 use Rattle.component_cycle.proofs.Joins.{joined-sound, joined-all, joined-done, popped-is, settled-sound, with_marks}
@@ -34,19 +34,19 @@ returns-after-loop-self c =
     let low = joined-all needs s c.args.node c.in-OnPath.place inv.sound inv.leads inv.here (c.begins_behind.ensures.not_behind c.loop-self-test.false) in
     record {
       sound = joined-done needs s c.args.node c.in-OnPath.place inv.sound inv.leads inv.here low;
-      seen = λ v ne. subst (λ (ss : List CycleSearch). get_or ss v Unseen ≢ Unseen) (sym inv.states) ne;
+      seen = λ v ne. subst (λ (ss : List NodeState). get_or ss v Unseen ≢ Unseen) (sym inv.states) ne;
       less = let same = ap (costs needs) inv.states in let waits = ap length inv.waiting in omega (arith, same, waits, inv.marks);
     }
 
 pub returns-in-Unseen : goal.returns-in-Unseen
 returns-in-Unseen c =
-    let here : state c.args.self.now c.args.node ≡ Unseen = sym (ap (λ (ss : List CycleSearch). get_or ss c.args.node Unseen) c.as_slice.ensures) ∙ c.in-Unseen.is in
+    let here : state c.args.self.now c.args.node ≡ Unseen = sym (ap (λ (ss : List NodeState). get_or ss c.args.node Unseen) c.as_slice.ensures) ∙ c.in-Unseen.is in
     on_ok_weaker c.enter.result (λ e. subst (λ t. DoesNotRaise c.args.needs.now c.args.self.now t) (sym e)
     (entered-follows c.args.needs.now c.args.self.now c.args.node c.requires.sound here c.requires.node c.requires.leads)) c.enter.ensures
 
 pub returns-in-Finished : goal.returns-in-Finished
 returns-in-Finished c =
-    let here : state c.args.self.now c.args.node ≡ Finished c.in-Finished.field-0 = sym (ap (λ (ss : List CycleSearch). get_or ss c.args.node Unseen) c.as_slice.ensures) ∙ c.in-Finished.is in
+    let here : state c.args.self.now c.args.node ≡ Finished c.in-Finished.field-0 = sym (ap (λ (ss : List NodeState). get_or ss c.args.node Unseen) c.as_slice.ensures) ∙ c.in-Finished.is in
     record {
       sound = settled-sound c.args.needs.now c.args.self.now c.args.node c.requires.sound c.in-Finished.field-0 here;
       seen = λ v ne. ne;

@@ -1,5 +1,5 @@
 use Rattle.std.proofs.Common.{◌≡◌, ◌≤◌, length, Some}
-use Rattle.component_cycle.specs.declared.search.CycleSearch.TheVariants.{OnPath}
+use Rattle.component_cycle.specs.declared.search.NodeState.TheVariants.{OnPath}
 use Rattle.component_cycle.specs.Search.{IsSound, AllReach, state}
 use Rattle.component_cycle.proofs.search.Search.look_at.Given as goal
 
