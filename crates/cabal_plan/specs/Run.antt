@@ -7,7 +7,7 @@ use Rattle.std.specs.declared.io.ErrorKind.TheVariants as kind
 use Rattle.outside_folder.specs.Calls.{Leaves}
 use Rattle.outside_folder.specs.Faults.{Rose}
 use Rattle.outside_folder.specs.Files.{Bytes, Files}
-use Rattle.owned_values.specs.declared.memory.NoMemory.{NoMemory}
+use Rattle.fallible_values.specs.declared.memory.NoMemory.{NoMemory}
 use Rattle.cabal_plan.specs.Failure.{IsSaid, failure_of}
 use Rattle.cabal_plan.specs.Taken.{Taken}
 use Rattle.cabal_plan.specs.Words.{words_of}

@@ -2,7 +2,7 @@
 // of so many branches, each on a flag of its own. The answer is the outlook of the last row: its number of paths, and
 // whether it is never Yes.
 use crate::conditions::{condition, environment};
-use condition_outlook::{Outlook, outlooks};
+use impossible_conditions::{Outlook, outlooks};
 use plan_types::{Conditions, Guard, Row};
 use std::alloc::Global;
 use std::test::Fail;

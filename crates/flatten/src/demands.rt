@@ -7,11 +7,11 @@ ghost use Rattle.plan_types.specs.declared.refusal.Cause.TheVariants.{TooManyPat
 ghost use Rattle.flatten.specs.Demands.{demands_of, demands_at, first_with_too_many_paths, outward_among, outward_in, first_among, stanza_of, flat_of, literal_of};
 ghost use Rattle.flatten.specs.Ways.{number_of_both, paths_of_both, ways_of};
 ghost use Rattle.plan_types.specs.Guarded.{of_group};
-ghost use Rattle.condition_outlook.specs.Outlook.{IsOutlookAt};
+ghost use Rattle.impossible_conditions.specs.Outlook.{IsOutlookAt};
 
 use crate::ways::{Ways, ways_of};
-use condition_outlook::{Outlook, outlooks};
 use conditionals::{MOST_PATHS, joined_paths};
+use impossible_conditions::{Outlook, outlooks};
 use plan_types::{
     Cause, CompKind, Component, Dep, DepGroup, Description, Env, Fault, FlagSet, FlatDep, List,
     Literal, NoMemory, PartName, Shared,

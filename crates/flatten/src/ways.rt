@@ -1,11 +1,11 @@
 // The paths of a condition, with their number.
 
 ghost use Rattle.std.specs.Prelude.{◌≡◌, IfOk};
-ghost use Rattle.condition_outlook.specs.Outlook.{IsOutlookAt};
+ghost use Rattle.impossible_conditions.specs.Outlook.{IsOutlookAt};
 ghost use Rattle.flatten.specs.Ways.{ways_of};
 
-use condition_outlook::Outlook;
 use conditionals::{MOST_PATHS, paths};
+use impossible_conditions::Outlook;
 use plan_types::{Cond, Env, FlagSet, List, NoMemory};
 use std::alloc::Global;
 

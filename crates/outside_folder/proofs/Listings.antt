@@ -7,7 +7,7 @@ use Rattle.std.specs.Str.{bytes_eq}
 use Rattle.std.proofs.lemmas.Bool.{cases_Bool, cases_lt, cases_eq, false≢true}
 use Rattle.std.proofs.lemmas.List.{take_more, take_all}
 use Rattle.std.proofs.lemmas.Slice.Eq.{bytes_eq-Decides}
-use Rattle.owned_values.specs.declared.text.Text.{Text}
+use Rattle.fallible_values.specs.declared.text.Text.{Text}
 use Rattle.outside_folder.specs.Files.{Bytes, first_name, inside, is_under, name_in, names_in, slash, with_name}
 use Rattle.outside_folder.specs.MemFile.{told, Dirs, Listed, AddsAt, IsFront, entries_of, names_at}
 use Rattle.outside_folder.specs.declared.mem_folder.MemFile.{MemFile}

@@ -4,7 +4,7 @@ use Rattle.std.specs.BTreeMap.{BTreeMap, get_by_text}
 use Rattle.std.specs.Str.{bytes_eq}
 use Rattle.std.specs.declared.alloc.Global.{Global}
 use Rattle.outside_folder.specs.declared.mem_folder.MemFile.{MemFile}
-use Rattle.owned_values.specs.declared.text.Text.{Text}
+use Rattle.fallible_values.specs.declared.text.Text.{Text}
 use Rattle.outside_folder.specs.Files.{Bytes, Files, file_at, is_path, is_tree, name_in, names_in, slash, with_name}
 
 -- the paths and bytes of files

@@ -24,6 +24,7 @@ pub use constraint::{Constraint, Scope, What};
 pub use dependency::{Dep, DepKind, LibName, Named, Relax, RelaxOwner};
 pub use description::{CompKind, Component, DepGroup, Description, FlagDecl, GuardedDeps};
 pub use element::{Element, joined_text};
+pub use fallible_values::{Boxed, List, NoMemory, Shared, Text};
 pub use guard::Guard;
 pub use index::{
     Body, Entry, Exposed, FlatDep, Index, Instance, Literal, Origin, Package, PartName, Places,
@@ -31,7 +32,6 @@ pub use index::{
 };
 pub use limit::Limit;
 pub use name::{is_component_name, is_flag_name, is_package_name};
-pub use owned_values::{Boxed, List, NoMemory, Shared, Text};
 pub use project::{Project, ProjectEntry, Settings};
 pub use range::{Range, Spec};
 pub use refusal::{Cause, Fault, Halt, Refusal, TextFault};

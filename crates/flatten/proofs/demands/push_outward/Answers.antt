@@ -6,8 +6,8 @@ use Rattle.plan_types.specs.declared.refusal.Cause.TheVariants.{TooManyPaths}
 use Rattle.plan_types.specs.Guarded.{in_groups, of_group}
 use Rattle.flatten.specs.Demands.{demands_at, first_among, outward_among, outward_in}
 use Rattle.std.specs.Prelude.{slice_get}
-use Rattle.condition_outlook.specs.Outlook.{IsOutlookAt}
-use Rattle.condition_outlook.proofs.OutlookPlaces.{outlook-at}
+use Rattle.impossible_conditions.specs.Outlook.{IsOutlookAt}
+use Rattle.impossible_conditions.proofs.OutlookPlaces.{outlook-at}
 use Rattle.flatten.proofs.FirstBeyond.{none_among, some_among}
 use Rattle.plan_types.proofs.OutcomeLemmas.{refused-as}
 use Rattle.flatten.proofs.DependencyGroups.{outward-append}

@@ -1,6 +1,6 @@
 use Rattle.std.proofs.Common.{Some, sym, ap, ◌∙◌, subst}
-use Rattle.condition_outlook.specs.Outlook.{IsOutlookAt}
-use Rattle.condition_outlook.proofs.OutlookPlaces.{outlook-at}
+use Rattle.impossible_conditions.specs.Outlook.{IsOutlookAt}
+use Rattle.impossible_conditions.proofs.OutlookPlaces.{outlook-at}
 use Rattle.flatten.proofs.demands.ways_to_build.Goals as goal
 
 pub ways_of-requires : goal.ways_of-requires

@@ -1,6 +1,6 @@
 use Rattle.std.proofs.Common.{◌≡◌, true, [], sym, ap, ◌∙◌}
 use Rattle.std.proofs.lemmas.Option.{get_or_from_slice_get}
-use Rattle.condition_outlook.proofs.ImpossibleConditions.{no-path-left}
+use Rattle.impossible_conditions.proofs.ImpossibleConditions.{no-path-left}
 use Rattle.conditionals.specs.Paths.{paths_of}
 use Rattle.flatten.specs.Ways.{few_paths}
 use Rattle.flatten.proofs.JoinedPaths.{all-kept, never-met, no-more, none-kept, none-met}

@@ -1,5 +1,0 @@
-use Rattle.std.proofs.Common.{refl}
-use Rattle.condition_outlook.proofs.known.Facts.unknown.Goals as goal
-
-pub returns : goal.returns
-returns c flags = record { known_impossible = refl; settled = c.new.ensures flags }
