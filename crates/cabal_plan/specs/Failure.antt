@@ -2,7 +2,7 @@
 use Rattle.std.specs.Prelude.{◌≡◌, ◌⊎◌, ◌∷◌, [], ◌++◌, codes, Option, Some, None}
 use Rattle.outside_folder.specs.Faults.{Rose}
 use Rattle.outside_folder.specs.Sink.{Appends, AppendsPrefix}
-use Rattle.cabal_plan.specs.Taken.{Taken}
+use Rattle.cabal_plan.specs.Taken.{SinkState}
 use Rattle.outside_folder.specs.Files.{Bytes}
 use Rattle.plan_command.specs.declared.status.Status.{Status}
 use Rattle.plan_command.specs.declared.status.Status.TheVariants.{Planned, NoPlan, GaveUp, Refused, ReadFault, WriteFault, NoMemory, Usage}
@@ -19,6 +19,6 @@ failure_of NoMemory = Some (codes "cabal-plan: out of memory" ++ 10 ∷ [])
 failure_of Usage = None
 
 -- the line was written, or its write failed after a prefix; without a line nothing was written
-abbrev pub IsSaid : Option Bytes → Taken → Taken → Type 0
-IsSaid None old new = new ≡ old
-IsSaid (Some line) old new = Appends old.bytes new.bytes line ⊎ (Rose old.faults new.faults × AppendsPrefix old.bytes new.bytes line)
+abbrev pub IsLineWritten : Option Bytes → SinkState → SinkState → Type 0
+IsLineWritten None old new = new ≡ old
+IsLineWritten (Some line) old new = Appends old.bytes new.bytes line ⊎ (Rose old.faults new.faults × AppendsPrefix old.bytes new.bytes line)

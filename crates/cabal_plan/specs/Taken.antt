@@ -3,9 +3,9 @@ use Rattle.std.specs.Prelude.{ℕ, Option}
 use Rattle.outside_folder.specs.Files.{Bytes}
 
 -- the bytes of a sink, if it is observable, and its count of faults
-pub record Taken : Type 0 where
+pub record SinkState : Type 0 where
   pub bytes : Option Bytes
   pub faults : ℕ
 
-abbrev pub taken : {S : Type 0} → (S → Option Bytes) → (S → ℕ) → S → Taken
-taken bytes faults sink = record { bytes = bytes sink; faults = faults sink }
+abbrev pub sink_state : {S : Type 0} → (S → Option Bytes) → (S → ℕ) → S → SinkState
+sink_state bytes faults sink = record { bytes = bytes sink; faults = faults sink }

@@ -7,9 +7,9 @@ ghost use Rattle.std.specs.Prelude.{◌≡◌, ◌++◌, ◌∷◌, [], codes, m
 ghost use Rattle.std.specs.Option.{option_copied};
 ghost use Rattle.std.specs.Process.{exit_status};
 ghost use Rattle.std.specs.Vec.Iter.{into_iter_items};
-ghost use Rattle.cabal_plan.specs.Failure.{IsSaid, failure_of};
+ghost use Rattle.cabal_plan.specs.Failure.{IsLineWritten, failure_of};
 ghost use Rattle.cabal_plan.specs.Run.{IsEnd, IsEndOver, IsEndWithoutWords, IsExit, IsRunOver};
-ghost use Rattle.cabal_plan.specs.Taken.{taken};
+ghost use Rattle.cabal_plan.specs.Taken.{sink_state};
 ghost use Rattle.cabal_plan.specs.Words.{words_of};
 ghost use Rattle.plan_command.specs.Status.{number_of_status};
 
@@ -42,8 +42,8 @@ fn program<R: AllocGlobal, F: Folder, S: Sink, E: Sink>(
     errors: &mut E,
 ) -> ExitCode
     ensures { IsExit (λ args. map string_bytes (into_iter_items args)) F.tells F.faults args folder.old folder.new
-        (taken S.bytes S.faults out.old) (taken S.bytes S.faults out.new) (taken E.bytes E.faults errors.old)
-        (taken E.bytes E.faults errors.new)
+        (sink_state S.bytes S.faults out.old) (sink_state S.bytes S.faults out.new) (sink_state E.bytes E.faults errors.old)
+        (sink_state E.bytes E.faults errors.new)
         (exit_status result) }
 {
     let status = status_of(rt.alloc(), args, folder, out);
@@ -58,7 +58,7 @@ fn status_of<F: Folder, S: Sink>(
     out: &mut S,
 ) -> Status
     ensures { IsEnd (λ args. map string_bytes (into_iter_items args)) F.tells F.faults args folder.old folder.new
-        (taken S.bytes S.faults out.old) (taken S.bytes S.faults out.new) result }
+        (sink_state S.bytes S.faults out.old) (sink_state S.bytes S.faults out.new) result }
 {
     match args {
         Ok(args) => status_for(alloc, args, folder, out),
@@ -68,7 +68,7 @@ fn status_of<F: Folder, S: Sink>(
 
 // Words that the system can't give as text have no reading.
 fn status_without_words<S: Sink>(kind: ErrorKind, out: &mut S) -> Status
-    ensures { IsEndWithoutWords kind (taken S.bytes S.faults out.old) (taken S.bytes S.faults out.new) result }
+    ensures { IsEndWithoutWords kind (sink_state S.bytes S.faults out.old) (sink_state S.bytes S.faults out.new) result }
 {
     if kind == ErrorKind::OutOfMemory {
         Status::NoMemory
@@ -84,7 +84,7 @@ fn status_for<F: Folder, S: Sink>(
     out: &mut S,
 ) -> Status
     ensures { IsEndOver F.tells F.faults (words_of (map string_bytes (into_iter_items args))) folder.old folder.new
-        (taken S.bytes S.faults out.old) (taken S.bytes S.faults out.new) result }
+        (sink_state S.bytes S.faults out.old) (sink_state S.bytes S.faults out.new) result }
 {
     match folder {
         Ok(folder) => status_over(alloc, args, folder, out),
@@ -94,7 +94,7 @@ fn status_for<F: Folder, S: Sink>(
 
 fn status_over<F: Folder, S: Sink>(alloc: Global, args: Args, folder: &mut F, out: &mut S) -> Status
     ensures { IsRunOver F.tells F.faults (words_of (map string_bytes (into_iter_items args))) folder.old folder.new
-        (taken S.bytes S.faults out.old) (taken S.bytes S.faults out.new) result }
+        (sink_state S.bytes S.faults out.old) (sink_state S.bytes S.faults out.new) result }
 {
     match words_of(alloc, args) {
         Ok(words) => planned(alloc, &words, folder, out),
@@ -108,8 +108,8 @@ fn planned<F: Folder, S: Sink>(
     folder: &mut F,
     out: &mut S,
 ) -> Status
-    ensures { IsRunOver F.tells F.faults words.now folder.old folder.new (taken S.bytes S.faults out.old)
-        (taken S.bytes S.faults out.new) result }
+    ensures { IsRunOver F.tells F.faults words.now folder.old folder.new (sink_state S.bytes S.faults out.old)
+        (sink_state S.bytes S.faults out.new) result }
 {
     run(alloc, words.as_slice(), folder, out)
 }
@@ -138,7 +138,7 @@ fn current_folder<R: Files + AllocGlobal + Clone + Drop>(
 
 // Writes the line of a failure. If that write fails too, only the exit status reports the failure.
 fn say<E: Sink>(status: Status, errors: &mut E)
-    ensures { IsSaid (failure_of status) (taken E.bytes E.faults errors.old) (taken E.bytes E.faults errors.new) }
+    ensures { IsLineWritten (failure_of status) (sink_state E.bytes E.faults errors.old) (sink_state E.bytes E.faults errors.new) }
 {
     if let Some(line) = failure_of(status) {
         let _ = write_all(errors, line.as_bytes());

@@ -105,7 +105,7 @@ fn run_of(alloc: Global, head: &str, content: &str, above: Option<&Run>) -> Resu
     let (status, digest) = end.split_once(" sha256 ").unwrap_or((end, ""));
     let failing = failing_of(fault);
     let output = match above {
-        Some(above) if failing.is_in_turn() => copied(alloc, above.output.as_slice())?,
+        Some(above) if failing.is_repeated() => copied(alloc, above.output.as_slice())?,
         _ => bytes_of(alloc, content)?,
     };
     Ok(Run {

@@ -26,7 +26,7 @@ pub enum Failing {
 
 impl Failing {
     /// Whether a run is made many times.
-    pub fn is_in_turn(self) -> bool {
+    pub fn is_repeated(self) -> bool {
         matches!(
             self,
             Failing::EachCall(_) | Failing::EachWrite(_) | Failing::EachByte | Failing::EachCut
@@ -249,14 +249,14 @@ fn other_of_cut(
     let first = answer_over(alloc, run, &mut folder, Faults::NONE)?;
     let second = answer_over(alloc, run, &mut folder, Faults::NONE)?;
     let is_same = first.status == second.status && first.output == second.output;
-    if is_same && is_told(&first) {
+    if is_same && is_answer(&first) {
         return Ok(None);
     }
     shown(alloc, "with a file that is cut off", &first)
 }
 
 // Whether an answer is a plan, that there is none, or a refusal.
-fn is_told(found: &Answer) -> bool {
+fn is_answer(found: &Answer) -> bool {
     let output = found.output.as_str();
     match found.status {
         0 => output.starts_with("plan\n"),

@@ -34,7 +34,7 @@ use Rattle.plan_search.specs.declared.search.Picking.TheVariants.{Least}
 use Rattle.plan_print.specs.Texts.{plan_text}
 use Rattle.plan_json.specs.Texts.{plan_json}
 use Rattle.plan_command.specs.Asked.{picking_of}
-use Rattle.plan_command.specs.Form.{IsPlanText, conflict_text_in, form_of, frozen_form, frozen_text, gave_up_text_in, said_before, summary_of}
+use Rattle.plan_command.specs.Form.{IsPlanText, conflict_text_in, form_of, frozen_form, frozen_text, gave_up_text_in, old_freeze_text, summary_of}
 use Rattle.plan_command.specs.Output.{IsOutputOfOutcome, refused, usage}
 use Rattle.plan_command.specs.Run.{IsOutputAtEvents, IsOutputAtTask, IsOutputOf, IsOutputOfCommand, IsOutputOfFreeze, IsOutputOfGenerate, IsOutputOfPlan, IsOutputOfRead, IsOutputOfReplay, IsOutputOfTask}
 use Rattle.plan_command.specs.declared.status.Status.TheVariants as status
@@ -86,7 +86,7 @@ as_asked : (options : Options) → HasTexts (IsPlanText (form_of options))
 as_asked options = by_json options.json options
 
 as_constraints : (files : Files) → HasTexts (IsPlanText (frozen_form files))
-as_constraints files index names trail nodes counts = (frozen_text (said_before (freeze_bytes files)) index names trail, refl)
+as_constraints files index names trail nodes counts = (frozen_text (old_freeze_text (freeze_bytes files)) index names trail, refl)
 
 module _ (some_task : SomeTask) (some_finding : SomeFinding) (some_plan : SomePlan) (some_event_list : SomeEventList) (some_replay : SomeReplay) where
   -- ---- a task has an output in a form with texts

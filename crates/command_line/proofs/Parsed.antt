@@ -19,7 +19,7 @@ use Rattle.command_line.specs.CommandName.{command_word, commands, needed_by, ta
 use Rattle.command_line.specs.declared.command_name.CommandName.{CommandName}
 use Rattle.command_line.specs.declared.command_name.CommandName.TheVariants.{Generate}
 use Rattle.command_line.specs.declared.option_name.OptionName.TheVariants.{Number}
-use Rattle.command_line.specs.Words.{asked, asks_for, given, is_command, is_given, is_known, is_well_given, options}
+use Rattle.command_line.specs.Words.{asked, fits, given, is_command, is_given, is_known, is_well_formed, options}
 use Rattle.command_line.specs.Parser.{found_in, parser}
 use Rattle.command_line.proofs.Table.{Given, each_option, rules, spelled, word_of}
 use Rattle.command_line.proofs.Walk.{Once, words_around, rows_around, with_flags, words_taken, values_found, counts_alike, finished_rows, walks}
@@ -85,20 +85,20 @@ around command (word ∷ words) known one =
 record Reads (words : List Text) (command : CommandName) : Type 0 where
   known : list_all (is_known command) words ≡ true
   once : count_by (is_command command) words ≡ 1
-  options_are : (option : OptionName) → is_well_given words option ≡ true
+  options_are : (option : OptionName) → is_well_formed words option ≡ true
   needed : list_all (is_given words) (needed_by command) ≡ true
 
-reads : (words : List Text) (command : CommandName) → asks_for words command ≡ true → Reads words command
+reads : (words : List Text) (command : CommandName) → fits words command ≡ true → Reads words command
 reads words command h =
     let one : Bool = count_by (is_command command) words == 1 in
-    let formed : Bool = list_all (is_well_given words) options in
+    let formed : Bool = list_all (is_well_formed words) options in
     let p = and_parts (list_all (is_known command) words) ((one && formed) && list_all (is_given words) (needed_by command)) h in
     let q = and_parts (one && formed) (list_all (is_given words) (needed_by command)) p.1 in
     let r = and_parts one formed q.0 in
     record {
       known = p.0;
       once = eqb-true (count_by (is_command command) words) 1 r.0;
-      options_are = each_option (is_well_given words) r.1;
+      options_are = each_option (is_well_formed words) r.1;
       needed = q.1;
     }
 
@@ -113,22 +113,22 @@ asked_one test (x ∷ xs) h =
 
 -- an option occurs at most once, and its value is well-formed
 
-at_most_once : (words : List Text) (option : OptionName) → is_well_given words option ≡ true → count_by (gives option) words ≤ 1
+at_most_once : (words : List Text) (option : OptionName) → is_well_formed words option ≡ true → count_by (gives option) words ≤ 1
 at_most_once words option well = leb-true (count_by (gives option) words) 1 (and_parts (nat_le (count_by (gives option) words) 1) (option_map_or (has_form option) (given option words) true) well).0
 
 pub well_formed : (words : List Text) → is_some (asked words) ≡ true → (option : OptionName) → option_map_or (has_form option) (given option words) true ≡ true
 well_formed words h option =
-    let command = asked_one (asks_for words) commands h in
+    let command = asked_one (fits words) commands h in
     (and_parts (nat_le (count_by (gives option) words) 1) (option_map_or (has_form option) (given option words) true) ((reads words command.0 command.1).options_are option)).1
 
 -- the options that a command needs are given
-asked_for : (words : List Text) (command : CommandName) (rest : List CommandName) → find (asks_for words) rest ≡ Some command → asks_for words command ≡ true
+asked_for : (words : List Text) (command : CommandName) (rest : List CommandName) → find (fits words) rest ≡ Some command → fits words command ≡ true
 asked_for words command [] found = absurd (cc found)
-asked_for words command (one ∷ rest) found = go (asks_for words one) refl found (asked_for words command rest)
+asked_for words command (one ∷ rest) found = go (fits words one) refl found (asked_for words command rest)
   where
-    go : (b : Bool) → asks_for words one ≡ b → cond b (Some one) (find (asks_for words) rest) ≡ Some command
-        → (find (asks_for words) rest ≡ Some command → asks_for words command ≡ true) → asks_for words command ≡ true
-    go true e is more = let same : one ≡ command = cc is in ap (asks_for words) (sym same) ∙ e
+    go : (b : Bool) → fits words one ≡ b → cond b (Some one) (find (fits words) rest) ≡ Some command
+        → (find (fits words) rest ≡ Some command → fits words command ≡ true) → fits words command ≡ true
+    go true e is more = let same : one ≡ command = cc is in ap (fits words) (sym same) ∙ e
     go false e is more = more is
 
 pub number_given : (words : List Text) → asked words ≡ Some Generate → option_map_or is_number (given Number words) false ≡ true
@@ -157,7 +157,7 @@ parses_around command before after once =
 
 pub parses : (words : List Text) → is_some (asked words) ≡ true → Parses words
 parses words h =
-    let found = asked_one (asks_for words) commands h in
+    let found = asked_one (fits words) commands h in
     let command = found.0 in
     let r = reads words command found.1 in
     let parts = around command words r.known r.once in

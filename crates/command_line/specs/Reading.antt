@@ -77,15 +77,15 @@ abbrev pub replay_of : List (List ℕ) → Command
 replay_of words = Replay (plain_options words) (unwrap_or (given Events words) (codes "events")) (slots_or (given Slots words))
 
 -- a command with the options of its words
-abbrev pub meant : List (List ℕ) → CommandName → Command
-meant words command.Plan = Plan (options_of words)
-meant words command.Generate = generate_of words
-meant words command.Freeze = Freeze (plain_options words)
-meant words command.Replay = replay_of words
+abbrev pub command_with_options : List (List ℕ) → CommandName → Command
+command_with_options words command.Plan = Plan (options_of words)
+command_with_options words command.Generate = generate_of words
+command_with_options words command.Freeze = Freeze (plain_options words)
+command_with_options words command.Replay = replay_of words
 
 -- the command that words mean
 abbrev pub reading : List (List ℕ) → Option Command
-reading words = option_map (meant words) (asked words)
+reading words = option_map (command_with_options words) (asked words)
 
 -- bounds of a command's numbers: `generate` makes 1 to 2,000 packages, `replay` has at least one slot
 abbrev pub IsBounded : Command → Type 0

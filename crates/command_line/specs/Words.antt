@@ -31,15 +31,15 @@ abbrev pub is_given : List (List ℕ) → OptionName → Bool
 is_given words option = is_some (given option words)
 
 -- the option occurs at most once, and its value is well-formed
-abbrev pub is_well_given : List (List ℕ) → OptionName → Bool
-is_well_given words option = nat_le (count_by (gives option) words) 1 && option_map_or (has_form option) (given option words) true
+abbrev pub is_well_formed : List (List ℕ) → OptionName → Bool
+is_well_formed words option = nat_le (count_by (gives option) words) 1 && option_map_or (has_form option) (given option words) true
 
 -- The words fit a command: its word once and options that it takes, in any order. No needed option is missing.
-abbrev pub asks_for : List (List ℕ) → CommandName → Bool
-asks_for words command =
+abbrev pub fits : List (List ℕ) → CommandName → Bool
+fits words command =
     list_all (is_known command) words
-    && ((count_by (is_command command) words == 1 && list_all (is_well_given words) options) && list_all (is_given words) (needed_by command))
+    && ((count_by (is_command command) words == 1 && list_all (is_well_formed words) options) && list_all (is_given words) (needed_by command))
 
 -- the command that the words fit, if any
 abbrev pub asked : List (List ℕ) → Option CommandName
-asked words = find (asks_for words) commands
+asked words = find (fits words) commands

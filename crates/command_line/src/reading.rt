@@ -9,7 +9,7 @@ ghost use Rattle.command_line.specs.Form.{compiler_digits, compiler_name, is_com
 ghost use Rattle.version_range.specs.Number.{limit_of};
 ghost use Rattle.command_line.specs.Parser.{Finds};
 ghost use Rattle.command_line.specs.Words.{asked};
-ghost use Rattle.command_line.specs.Reading.{IsBounded, compiler_or, default_options, env_of, generate_of, is_true, meant, options_of, places_of, plain_options, reading, replay_of, slots_or};
+ghost use Rattle.command_line.specs.Reading.{IsBounded, compiler_or, default_options, env_of, generate_of, is_true, command_with_options, options_of, places_of, plain_options, reading, replay_of, slots_or};
 
 use crate::command_name::CommandName;
 use crate::form::{cut_at_last_dash, number_in};
@@ -86,16 +86,20 @@ pub fn read_words(alloc: Global, words: &[Text]) -> Result<Command, WordsFault>
     match asked(words) {
         None => Err(WordsFault::Usage),
         Some(command) => {
-            let meant = meant(alloc, words, command)?;
-            Ok(meant)
+            let command_with_options = command_with_options(alloc, words, command)?;
+            Ok(command_with_options)
         }
     }
 }
 
 // A command with the options of its words.
-fn meant(alloc: Global, words: &[Text], command: CommandName) -> Result<Command, NoMemory>
+fn command_with_options(
+    alloc: Global,
+    words: &[Text],
+    command: CommandName,
+) -> Result<Command, NoMemory>
     requires { asked words.now ≡ Some command }
-    ensures meant { IfOk result (λ found. found ≡ meant words.now command) }
+    ensures command_with_options { IfOk result (λ found. found ≡ command_with_options words.now command) }
     ensures bounded { IfOk result IsBounded }
 {
     match command {
@@ -111,7 +115,7 @@ fn meant(alloc: Global, words: &[Text], command: CommandName) -> Result<Command,
 
 fn generate_of(alloc: Global, words: &[Text]) -> Result<Command, NoMemory>
     requires { asked words.now ≡ Some CommandName.Generate }
-    ensures meant { IfOk result (λ found. found ≡ generate_of words.now) }
+    ensures command_with_options { IfOk result (λ found. found ≡ generate_of words.now) }
     ensures bounded { IfOk result IsBounded }
 {
     let matches = matches_of(alloc, words)?;
@@ -141,7 +145,7 @@ pub fn default_options(alloc: Global, limit: Limit) -> Result<Options, NoMemory>
 
 fn freeze_of(alloc: Global, words: &[Text]) -> Result<Command, NoMemory>
     requires { asked words.now ≡ Some CommandName.Freeze }
-    ensures meant { IfOk result (λ found. found ≡ meant words.now CommandName.Freeze) }
+    ensures command_with_options { IfOk result (λ found. found ≡ command_with_options words.now CommandName.Freeze) }
     ensures bounded { IfOk result IsBounded }
 {
     let matches = matches_of(alloc, words)?;
@@ -151,7 +155,7 @@ fn freeze_of(alloc: Global, words: &[Text]) -> Result<Command, NoMemory>
 
 fn replay_of(alloc: Global, words: &[Text]) -> Result<Command, NoMemory>
     requires { asked words.now ≡ Some CommandName.Replay }
-    ensures meant { IfOk result (λ found. found ≡ replay_of words.now) }
+    ensures command_with_options { IfOk result (λ found. found ≡ replay_of words.now) }
     ensures bounded { IfOk result IsBounded }
 {
     let matches = matches_of(alloc, words)?;

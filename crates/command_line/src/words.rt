@@ -5,7 +5,7 @@ ghost use Rattle.std.specs.Option.{option_copied, option_map_or};
 ghost use Rattle.command_line.specs.OptionName.{gives};
 ghost use Rattle.command_line.specs.Form.{has_form};
 ghost use Rattle.command_line.specs.CommandName.{needed_by, taken_by};
-ghost use Rattle.command_line.specs.Words.{asked, asks_for, given, is_command, is_given, is_known, is_well_given, options};
+ghost use Rattle.command_line.specs.Words.{asked, fits, given, is_command, is_given, is_known, is_well_formed, options};
 
 use crate::command_name::{CommandName, command_word, commands, needed_by, taken_by};
 use crate::form::has_form;
@@ -16,14 +16,14 @@ use plan_types::Text;
 pub fn asked(words: &[Text]) -> Option<CommandName>
     ensures { result ≡ asked words.now }
 {
-    asked_among(words, &commands())
+    command_among(words, &commands())
 }
 
-fn asked_among(words: &[Text], commands: &[CommandName]) -> Option<CommandName>
-    ensures { result ≡ find (asks_for words.now) commands.now }
+fn command_among(words: &[Text], commands: &[CommandName]) -> Option<CommandName>
+    ensures { result ≡ find (fits words.now) commands.now }
 {
     for command in commands {
-        if asks_for(words, *command) {
+        if fits(words, *command) {
             return Some(*command);
         }
     }
@@ -31,8 +31,8 @@ fn asked_among(words: &[Text], commands: &[CommandName]) -> Option<CommandName>
 }
 
 // The words are the command's word once and options that it takes, in any order. No needed option is missing.
-fn asks_for(words: &[Text], command: CommandName) -> bool
-    ensures { result ≡ asks_for words.now command }
+fn fits(words: &[Text], command: CommandName) -> bool
+    ensures { result ≡ fits words.now command }
 {
     are_known(words, command) && is_one_command(words, command) && has_needed(words, command)
 }
@@ -58,7 +58,7 @@ fn is_given(option: OptionName, words: &[Text]) -> bool
 }
 
 fn is_one_command(words: &[Text], command: CommandName) -> bool
-    ensures { result ≡ (count_by (is_command command) words.now == 1 && list_all (is_well_given words.now) options) }
+    ensures { result ≡ (count_by (is_command command) words.now == 1 && list_all (is_well_formed words.now) options) }
 {
     command_count(words, command) == 1 && are_well_given(words)
 }
@@ -112,14 +112,16 @@ fn command_count(words: &[Text], command: CommandName) -> usize
 }
 
 fn are_well_given(words: &[Text]) -> bool
-    ensures { result ≡ list_all (is_well_given words.now) options }
+    ensures { result ≡ list_all (is_well_formed words.now) options }
 {
-    options().iter().all(|option| is_well_given(*option, words))
+    options()
+        .iter()
+        .all(|option| is_well_formed(*option, words))
 }
 
 // The option occurs at most once, and its value is well-formed.
-fn is_well_given(option: OptionName, words: &[Text]) -> bool
-    ensures { result ≡ is_well_given words.now option }
+fn is_well_formed(option: OptionName, words: &[Text]) -> bool
+    ensures { result ≡ is_well_formed words.now option }
 {
     word_count(option, words) <= 1 && has_good_value(option, words)
 }

@@ -36,8 +36,8 @@ use Rattle.node_lines.specs.Lines.{HasLine, ids_for, is_of_library, needed_by, t
 use Rattle.node_lines.specs.Numbers.{row_of}
 use Rattle.node_lines.proofs.OneLine.{one}
 use Rattle.node_lines.proofs.NodePlaces.{at_place}
-use Rattle.elaborate.specs.declared.told.Told.{Told}
-use Rattle.elaborate.specs.Before.{AreToldBefore}
+use Rattle.elaborate.specs.declared.told.LinedNode.{LinedNode}
+use Rattle.elaborate.specs.Before.{NeedsPrintedBefore}
 use Rattle.elaborate.specs.Plan.{AreRanked, IsPlan, graph_of, line_at, no_told, nodes_of}
 
 -- ---- identifiers in order
@@ -108,8 +108,8 @@ asks-for selection node line (told n l f each is) id c =
 
 -- ---- in build order
 
-module _ (selection : Selection) (all : List Told) (ranked : AreRanked selection all) (places : List ℕ) (build : IsBuildOrder (graph_of selection all) places) where
-  abbrev row : Told → List ℕ
+module _ (selection : Selection) (all : List LinedNode) (ranked : AreRanked selection all) (places : List ℕ) (build : IsBuildOrder (graph_of selection all) places) where
+  abbrev row : LinedNode → List ℕ
   row t = row_of (nodes_of all) (needs_of selection t.node)
 
   need-placed : (front rest : List ℕ) (u : ℕ) → places ≡ front ++ u ∷ rest → (id : List ℕ) → Contains (all_needs (line_at all u)) id
@@ -121,13 +121,13 @@ module _ (selection : Selection) (all : List Told) (ranked : AreRanked selection
       let here : Contains all t = Contains-get_or all u no_told within in
       let asked = asks-for selection t.node t.line (ranked.lines t here) id c in
       let node = asked.need.node in
-      let other : Told = record { node = node; line = asked.line } in
+      let other : LinedNode = record { node = node; line = asked.line } in
       let plan = needed t.node node (ranked.inside t here) (map-contains (λ (n : Need). n.node) (needs_of selection t.node) asked.need asked.among) in
-      let at = at_place (nodes_of all) node (map-contains (λ (s : Told). s.node) all other (ranked.whole other plan asked.has)) in
+      let at = at_place (nodes_of all) node (map-contains (λ (s : LinedNode). s.node) all other (ranked.whole other plan asked.has)) in
       let v = place_of (nodes_of all) node in
-      let there : v < length all = subst (λ n. v < n) (length-map all (λ (s : Told). s.node)) at.within in
+      let there : v < length all = subst (λ n. v < n) (length-map all (λ (s : LinedNode). s.node)) at.within in
       let s = get_or all v no_told in
-      let is-node : s.node ≡ node = sym (get_or-map (λ (x : Told). x.node) all v no_told no_node there) ∙ at.is in
+      let is-node : s.node ≡ node = sym (get_or-map (λ (x : LinedNode). x.node) all v no_told no_node there) ∙ at.is in
       let is-line : s.line ≡ asked.line =
       one selection node s.line asked.line (subst (λ n. HasLine selection n s.line) is-node (ranked.lines s (Contains-get_or all v no_told there))) asked.has in
       let edge : Needs (graph_of selection all) u v =
@@ -230,7 +230,7 @@ split-of f (x ∷ xs) (z ∷ front) rest y e =
       same = s.same;
     }
 
-pub told_before : (selection : Selection) (lines : List PlanNode) → IsPlan selection lines → AreToldBefore lines
+pub told_before : (selection : Selection) (lines : List PlanNode) → IsPlan selection lines → NeedsPrintedBefore lines
 told_before selection lines plan front rest line id is c =
     let made = map (line_at plan.all) plan.places in
     let first = (once-kept made).splits front rest line (sym plan.lines_are ∙ is) in

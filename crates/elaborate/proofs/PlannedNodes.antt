@@ -24,11 +24,11 @@ use Rattle.plan_components.specs.Steps.{no_node}
 use Rattle.node_lines.specs.Lines.{AreLines, HasLine, told}
 use Rattle.node_lines.specs.Numbers.{row_of}
 use Rattle.node_lines.proofs.NodePlaces.{at_place, row_at, stands}
-use Rattle.elaborate.specs.declared.told.Told.{Told}
+use Rattle.elaborate.specs.declared.told.LinedNode.{LinedNode}
 use Rattle.elaborate.specs.Plan.{AreRanked, graph_of, nodes_of}
 use Rattle.elaborate.specs.Ranks.{needs_at, rank_of, ranked_row, ranks_after}
-use Rattle.elaborate.specs.Telling.{told_in}
-use Rattle.elaborate.specs.Told.{told_cmp}
+use Rattle.elaborate.specs.Telling.{lined_nodes}
+use Rattle.elaborate.specs.Told.{lined_cmp}
 use Rattle.elaborate.proofs.Members.{beside, once_told, told_at}
 use Rattle.elaborate.proofs.Ranking.{rank_is}
 
@@ -53,23 +53,23 @@ map-on f g [] h = refl
 map-on f g (x ∷ xs) h = ap (λ y. y ∷ map f xs) (h x (contains-head x xs)) ∙ ap (λ l. g x ∷ l) (map-on f g xs (λ y c. h y (contains-tail x xs y c)))
 
 module _ (selection : Selection) (reached : Reached) (are : AreReached selection reached) (lines : List (Option PlanNode))
-    (have : AreLines selection reached.set.keys lines) (all : List Told) (moved : IsPermutation (told_in reached.set.keys lines) all)
-    (sorted : IsSorted told_cmp all) where
+    (have : AreLines selection reached.set.keys lines) (all : List LinedNode) (moved : IsPermutation (lined_nodes reached.set.keys lines) all)
+    (sorted : IsSorted lined_cmp all) where
   abbrev keys : List Node
   keys = reached.set.keys
 
-  abbrev before : List Told
-  before = told_in keys lines
+  abbrev before : List LinedNode
+  before = lined_nodes keys lines
 
-  back : (t : Told) → Contains all t → Contains before t
+  back : (t : LinedNode) → Contains all t → Contains before t
   back t c = Contains-permutation all before t (IsPermutation-sym before all moved) c
 
-  reached_node : (t : Told) → Contains all t → Contains keys t.node
+  reached_node : (t : LinedNode) → Contains all t → Contains keys t.node
   reached_node t c = let b = beside keys lines t (back t c) in subst (Contains keys) b.node (Contains-get_or keys b.place no_node b.within)
 
   pub ranked : AreRanked selection all
   ranked = record {
-    once = still_once (nodes_of before) (nodes_of all) (IsPermutation-map (λ (t : Told). t.node) before all moved) (once_told keys lines are.once);
+    once = still_once (nodes_of before) (nodes_of all) (IsPermutation-map (λ (t : LinedNode). t.node) before all moved) (once_told keys lines are.once);
     sorted = sorted;
     inside = λ t c. (are.each t.node).0 (reached_node t c);
     lines = λ t c.
@@ -82,40 +82,40 @@ module _ (selection : Selection) (reached : Reached) (are : AreReached selection
   }
 
   -- the needs of these nodes are among them
-  need_told : (t : Told) → Contains all t → (need : Need) → Contains (needs_of selection t.node) need → Contains (nodes_of all) need.node
+  need_told : (t : LinedNode) → Contains all t → (need : Need) → Contains (needs_of selection t.node) need → Contains (nodes_of all) need.node
   need_told t c need k =
       let line = need_line selection t.node t.line (ranked.lines t c) need k in
-      map-contains (λ (u : Told). u.node) all (record { node = need.node; line = line.0 })
+      map-contains (λ (u : LinedNode). u.node) all (record { node = need.node; line = line.0 })
       (ranked.whole (record { node = need.node; line = line.0 })
       (needed t.node need.node (ranked.inside t c) (map-contains (λ (n : Need). n.node) (needs_of selection t.node) need k)) line.1)
 
   are_among : (m : Node) → Contains (nodes_of all) m → Contains keys m
-  are_among m c = let from = contains-map (λ (t : Told). t.node) all m c in subst (Contains keys) from.2 (reached_node from.0 from.1)
+  are_among m c = let from = contains-map (λ (t : LinedNode). t.node) all m c in subst (Contains keys) from.2 (reached_node from.0 from.1)
 
-  needs_are : (t : Told) → Contains all t → needs_at reached t.node ≡ needs_of selection t.node
+  needs_are : (t : LinedNode) → Contains all t → needs_at reached t.node ≡ needs_of selection t.node
   needs_are t c =
       let at = at_place keys t.node (reached_node t c) in
       row_at selection reached are (place_of keys t.node) at.within ∙ ap (needs_of selection) at.is
 
-  row_is : (t : Told) → Contains all t → ranked_row reached (ranks_after keys all) t ≡ row_of (nodes_of all) (needs_of selection t.node)
+  row_is : (t : LinedNode) → Contains all t → ranked_row reached (ranks_after keys all) t ≡ row_of (nodes_of all) (needs_of selection t.node)
   row_is t c =
       ap (map (λ (n : Need). rank_of reached (ranks_after keys all) n.node)) (needs_are t c)
       ∙ map-on (λ (n : Need). rank_of reached (ranks_after keys all) n.node) (λ (n : Need). place_of (nodes_of all) n.node) (needs_of selection t.node)
       (λ need k. rank_is keys all need.node are_among ranked.once (need_told t c need k))
 
   pub graph_is : map (ranked_row reached (ranks_after keys all)) all ≡ graph_of selection all
-  graph_is = map-on (ranked_row reached (ranks_after keys all)) (λ (t : Told). row_of (nodes_of all) (needs_of selection t.node)) all row_is
+  graph_is = map-on (ranked_row reached (ranks_after keys all)) (λ (t : LinedNode). row_of (nodes_of all) (needs_of selection t.node)) all row_is
 
   pub graph_count : length (graph_of selection all) ≡ length all
-  graph_count = length-map all (λ (t : Told). row_of (nodes_of all) (needs_of selection t.node))
+  graph_count = length-map all (λ (t : LinedNode). row_of (nodes_of all) (needs_of selection t.node))
 
   within : (row : List ℕ) → Contains (graph_of selection all) row → (v : ℕ) → Contains row v → v < length (graph_of selection all)
   within row c v k =
-      let t = contains-map (λ (t : Told). row_of (nodes_of all) (needs_of selection t.node)) all row c in
+      let t = contains-map (λ (t : LinedNode). row_of (nodes_of all) (needs_of selection t.node)) all row c in
       let need = contains-map (λ (n : Need). place_of (nodes_of all) n.node) (needs_of selection t.0.node) v (subst (λ r. Contains r v) (sym t.2) k) in
       let at = at_place (nodes_of all) need.0.node (need_told t.0 t.1 need.0 need.1) in
       subst (λ n. n < length (graph_of selection all)) need.2
-      (subst (λ n. place_of (nodes_of all) need.0.node < n) (length-map all (λ (u : Told). u.node) ∙ sym graph_count) at.within)
+      (subst (λ n. place_of (nodes_of all) need.0.node < n) (length-map all (λ (u : LinedNode). u.node) ∙ sym graph_count) at.within)
 
   pub is_graph : IsGraph (graph_of selection all)
   is_graph = all-where (All (λ v. v < length (graph_of selection all))) (graph_of selection all) (λ row c. all-where (λ v. v < length (graph_of selection all)) row (within row c))

@@ -8,7 +8,7 @@ use Rattle.plan_components.specs.declared.node.Node.{Node}
 use Rattle.plan_components.specs.SameNode.{node-is, node-self, place_of, same_node}
 use Rattle.plan_components.specs.Steps.{node_at}
 use Rattle.node_lines.proofs.NodePlaces.{at_place}
-use Rattle.elaborate.specs.declared.told.Told.{Told}
+use Rattle.elaborate.specs.declared.told.LinedNode.{LinedNode}
 use Rattle.elaborate.specs.Plan.{nodes_of}
 use Rattle.elaborate.specs.Ranks.{ranks_after, ranks_from, with_rank}
 
@@ -17,7 +17,7 @@ module _ (nodes : List Node) where
   apart : (m n : Node) → Contains nodes m → Contains nodes n → m ≢ n → place_of nodes n ≢ place_of nodes m
   apart m n have_m have_n differ e = differ (sym (at_place nodes m have_m).is ∙ ap (node_at nodes) (sym e) ∙ (at_place nodes n have_n).is)
 
-  module _ (t : Told) (ranks : List ℕ) (place : ℕ) (count : length ranks ≡ length nodes) (there : Contains nodes t.node) where
+  module _ (t : LinedNode) (ranks : List ℕ) (place : ℕ) (count : length ranks ≡ length nodes) (there : Contains nodes t.node) where
     abbrev next : List ℕ
     next = with_rank ranks (place_of nodes t.node) place
 
@@ -38,17 +38,17 @@ module _ (nodes : List Node) where
         ap (λ r. get_or r (place_of nodes n) 0) is-set
         ∙ get_or-set_other ranks (place_of nodes t.node) (place_of nodes n) place 0 (apart t.node n there have differ)
 
-  abbrev AreAmong : List Told → Type 0
+  abbrev AreAmong : List LinedNode → Type 0
   AreAmong all = (m : Node) → Contains (nodes_of all) m → Contains nodes m
 
-  first : (t : Told) (all : List Told) → AreAmong (t ∷ all) → Contains nodes t.node
+  first : (t : LinedNode) (all : List LinedNode) → AreAmong (t ∷ all) → Contains nodes t.node
   first t all among = among t.node (contains-head t.node (nodes_of all))
 
-  others : (t : Told) (all : List Told) → AreAmong (t ∷ all) → AreAmong all
+  others : (t : LinedNode) (all : List LinedNode) → AreAmong (t ∷ all) → AreAmong all
   others t all among m c = among m (contains-tail t.node (nodes_of all) m c)
 
   -- a node that isn't among these keeps its rank
-  kept : (all : List Told) (ranks : List ℕ) (place : ℕ) (n : Node) → length ranks ≡ length nodes → AreAmong all → Contains nodes n
+  kept : (all : List LinedNode) (ranks : List ℕ) (place : ℕ) (n : Node) → length ranks ≡ length nodes → AreAmong all → Contains nodes n
       → (Contains (nodes_of all) n → ⊥) → get_or (ranks_from nodes ranks place all) (place_of nodes n) 0 ≡ get_or ranks (place_of nodes n) 0
   kept [] ranks place n count among have out = refl
   kept (t ∷ all) ranks place n count among have out =
@@ -56,7 +56,7 @@ module _ (nodes : List Node) where
       kept all (next t ranks place count there) (suc place) n (same-count t ranks place count there) (others t all among) have (λ c. out (contains-tail t.node (nodes_of all) n c))
       ∙ elsewhere t ranks place count there n have (λ e. out (subst (Contains (nodes_of (t ∷ all))) e (contains-head t.node (nodes_of all))))
 
-  ranked : (all : List Told) (ranks : List ℕ) (place : ℕ) (n : Node) → length ranks ≡ length nodes → AreAmong all → AllPairs (λ a b. a ≢ b) (nodes_of all)
+  ranked : (all : List LinedNode) (ranks : List ℕ) (place : ℕ) (n : Node) → length ranks ≡ length nodes → AreAmong all → AllPairs (λ a b. a ≢ b) (nodes_of all)
       → Contains (nodes_of all) n → get_or (ranks_from nodes ranks place all) (place_of nodes n) 0 ≡ place + place_of (nodes_of all) n
   ranked [] ranks place n count among once c = absurd (contains-none n c)
   ranked (t ∷ all) ranks place n count among once c =
@@ -79,7 +79,7 @@ module _ (nodes : List Node) where
       ] refl
 
   -- the rank of a node
-  pub rank_is : (all : List Told) (n : Node) → AreAmong all → AllPairs (λ a b. a ≢ b) (nodes_of all) → Contains (nodes_of all) n
+  pub rank_is : (all : List LinedNode) (n : Node) → AreAmong all → AllPairs (λ a b. a ≢ b) (nodes_of all) → Contains (nodes_of all) n
       → get_or (ranks_after nodes all) (place_of nodes n) 0 ≡ place_of (nodes_of all) n
   rank_is all n among once c =
       let plain : 0 + place_of (nodes_of all) n ≡ place_of (nodes_of all) n = omega arith in

@@ -15,8 +15,8 @@ use Rattle.plan_components.specs.declared.node.Piece.TheVariants.{One, Whole}
 use Rattle.plan_components.specs.Chosen.{Selection}
 use Rattle.node_lines.specs.Lines.{HasLine}
 use Rattle.node_lines.proofs.OneLine.{one}
-use Rattle.elaborate.specs.declared.told.Told.{Told}
-use Rattle.elaborate.specs.Told.{node_cmp, piece_cmp, told_cmp}
+use Rattle.elaborate.specs.declared.told.LinedNode.{LinedNode}
+use Rattle.elaborate.specs.Told.{node_cmp, piece_cmp, lined_cmp}
 
 first-equal : (first second : Ordering) → ordering_then first second ≡ Equal → first ≡ Equal
 first-equal Less second e = absurd (cc e)
@@ -39,7 +39,7 @@ node-is m n e =
     ∙ ap (λ x. record { qual = n.qual; «package» = x; piece = m.piece }) (exact_unsigned m.«package» n.«package» (first-equal by_package by_piece behind))
     ∙ ap (λ x. record { qual = n.qual; «package» = n.«package»; piece = x }) (piece-is m.piece n.piece (second-equal by_package by_piece behind))
 
-pub tie : (selection : Selection) (s t : Told) → HasLine selection s.node s.line → HasLine selection t.node t.line → told_cmp s t ≡ Equal → s ≡ t
+pub tie : (selection : Selection) (s t : LinedNode) → HasLine selection s.node s.line → HasLine selection t.node t.line → lined_cmp s t ≡ Equal → s ≡ t
 tie selection s t hs ht e =
     let nodes : s.node ≡ t.node = node-is s.node t.node (second-equal
     (ordering_then (ordering_then (ordering_then (slice_cmp nat_cmp s.line.name t.line.name)

@@ -7,9 +7,9 @@ use Rattle.build_order.proofs.OneOrder.{same_rest}
 use Rattle.plan_nodes.specs.declared.node.PlanNode.{PlanNode}
 use Rattle.plan_nodes.specs.Once.{each_line_once}
 use Rattle.plan_components.specs.Chosen.{Selection}
-use Rattle.elaborate.specs.declared.told.Told.{Told}
+use Rattle.elaborate.specs.declared.told.LinedNode.{LinedNode}
 use Rattle.elaborate.specs.Plan.{AreRanked, IsPlan, graph_of, line_at}
-use Rattle.elaborate.specs.Told.{told_cmp}
+use Rattle.elaborate.specs.Told.{lined_cmp}
 use Rattle.elaborate.proofs.NodeOrder.{told-total}
 use Rattle.elaborate.proofs.Sorted.{all-after, one-list}
 use Rattle.elaborate.proofs.Ties.{tie}
@@ -23,14 +23,14 @@ once-by f xs once i j d less within same =
     (before (omega (arith, less, within)) ∙ ap f same ∙ sym (after within))
 
 -- the nodes of one plan are those of another
-among : (selection : Selection) (xs ys : List Told) → AreRanked selection xs → AreRanked selection ys → (t : Told) → Contains xs t → Contains ys t
+among : (selection : Selection) (xs ys : List LinedNode) → AreRanked selection xs → AreRanked selection ys → (t : LinedNode) → Contains xs t → Contains ys t
 among selection xs ys from to t c = to.whole t (from.inside t c) (from.lines t c)
 
 module _ (selection : Selection) where
-  one-ranked : (xs ys : List Told) → AreRanked selection xs → AreRanked selection ys → xs ≡ ys
+  one-ranked : (xs ys : List LinedNode) → AreRanked selection xs → AreRanked selection ys → xs ≡ ys
   one-ranked xs ys h k =
-      one-list told_cmp told-total xs ys (all-after told_cmp told-total xs h.sorted) (all-after told_cmp told-total ys k.sorted)
-      (once-by (λ (t : Told). t.node) xs h.once) (once-by (λ (t : Told). t.node) ys k.once)
+      one-list lined_cmp told-total xs ys (all-after lined_cmp told-total xs h.sorted) (all-after lined_cmp told-total ys k.sorted)
+      (once-by (λ (t : LinedNode). t.node) xs h.once) (once-by (λ (t : LinedNode). t.node) ys k.once)
       (among selection xs ys h k) (among selection ys xs k h)
       (λ s t c d e. tie selection s t (h.lines s c) (h.lines t d) e)
 

@@ -19,7 +19,7 @@ use Rattle.node_lines.specs.Lines.{HasLine, HaveLines, told}
 use Rattle.node_lines.specs.Numbers.{row_of}
 use Rattle.node_lines.proofs.OneLine.{one}
 use Rattle.node_lines.proofs.NodePlaces.{IsAt, at_place}
-use Rattle.elaborate.specs.declared.told.Told.{Told}
+use Rattle.elaborate.specs.declared.told.LinedNode.{LinedNode}
 use Rattle.elaborate.specs.Plan.{AreRanked, IsPlan, graph_of, line_at, no_told, nodes_of}
 use Rattle.elaborate.specs.Whole.{LacksNone}
 use Rattle.elaborate.proofs.NeedsBefore.{once-kept}
@@ -32,8 +32,8 @@ decide places u =
       | false ↦ λ e. inr (λ c. false≢true (sym e ∙ any-from (λ k. nat_eq k u) places u c (eq-eqb u u refl)))
     ] refl
 
-module _ (selection : Selection) (all : List Told) (ranked : AreRanked selection all) (places : List ℕ) (build : IsBuildOrder (graph_of selection all) places) where
-  abbrev row : Told → List ℕ
+module _ (selection : Selection) (all : List LinedNode) (ranked : AreRanked selection all) (places : List ℕ) (build : IsBuildOrder (graph_of selection all) places) where
+  abbrev row : LinedNode → List ℕ
   row t = row_of (nodes_of all) (needs_of selection t.node)
 
   abbrev place : Node → ℕ
@@ -42,15 +42,15 @@ module _ (selection : Selection) (all : List Told) (ranked : AreRanked selection
   -- a node of the plan that has a line is at its place
   stands : (node : Node) (line : PlanNode) → IsInPlan selection node → HasLine selection node line → IsAt (nodes_of all) node (place node)
   stands node line plan has =
-      let t : Told = record { node = node; line = line } in
-      at_place (nodes_of all) node (map-contains (λ (s : Told). s.node) all t (ranked.whole t plan has))
+      let t : LinedNode = record { node = node; line = line } in
+      at_place (nodes_of all) node (map-contains (λ (s : LinedNode). s.node) all t (ranked.whole t plan has))
 
   within : (node : Node) (line : PlanNode) → IsInPlan selection node → HasLine selection node line → place node < length all
-  within node line plan has = subst (λ n. place node < n) (length-map all (λ (s : Told). s.node)) (stands node line plan has).within
+  within node line plan has = subst (λ n. place node < n) (length-map all (λ (s : LinedNode). s.node)) (stands node line plan has).within
 
   node-there : (node : Node) (line : PlanNode) → IsInPlan selection node → HasLine selection node line → (get_or all (place node) no_told).node ≡ node
   node-there node line plan has =
-      sym (get_or-map (λ (x : Told). x.node) all (place node) no_told no_node (within node line plan has)) ∙ (stands node line plan has).is
+      sym (get_or-map (λ (x : LinedNode). x.node) all (place node) no_told no_node (within node line plan has)) ∙ (stands node line plan has).is
 
   -- it is placed, since all its needs are
   placed : (node : Node) (line : PlanNode) → IsInPlan selection node → HasLine selection node line → Contains places (place node)

@@ -5,10 +5,10 @@ use Rattle.qualified_goals.specs.declared.variable.Qual.{Qual}
 use Rattle.qualified_goals.specs.declared.variable.Qual.TheVariants.{Top, Setup}
 use Rattle.plan_nodes.specs.declared.node.NodeKind.TheVariants.{Store}
 use Rattle.plan_components.specs.declared.node.Piece.TheVariants.{Whole}
-use Rattle.elaborate.specs.declared.told.Told.{Told}
-use Rattle.elaborate.specs.Told.{told_cmp}
+use Rattle.elaborate.specs.declared.told.LinedNode.{LinedNode}
+use Rattle.elaborate.specs.Told.{lined_cmp}
 
-abbrev node_with : List ℕ → List ℕ → List ℕ → Qual → Told
+abbrev node_with : List ℕ → List ℕ → List ℕ → Qual → LinedNode
 node_with version component id qual = record {
   node = record { qual = qual; «package» = 0; piece = Whole };
   line = record {
@@ -25,16 +25,16 @@ node_with version component id qual = record {
 }
 
 -- versions as lists of numbers
-by_version : told_cmp (node_with (1 ∷ 2 ∷ []) (codes "lib") (codes "b") Top)
+by_version : lined_cmp (node_with (1 ∷ 2 ∷ []) (codes "lib") (codes "b") Top)
     (node_with (1 ∷ 10 ∷ []) (codes "lib") (codes "a") Top) ≡ Less
 by_version = refl
 
 -- the component before the identifier
-by_component : told_cmp (node_with (1 ∷ []) (codes "lib") (codes "a") Top)
+by_component : lined_cmp (node_with (1 ∷ []) (codes "lib") (codes "a") Top)
     (node_with (1 ∷ []) (codes "exe:run") (codes "b") Top) ≡ Greater
 by_component = refl
 
 -- the qualifier last
-by_qualifier : told_cmp (node_with (1 ∷ []) (codes "lib") (codes "a") Top)
+by_qualifier : lined_cmp (node_with (1 ∷ []) (codes "lib") (codes "a") Top)
     (node_with (1 ∷ []) (codes "lib") (codes "a") (Setup 3)) ≡ Less
 by_qualifier = refl

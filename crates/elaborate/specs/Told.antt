@@ -8,7 +8,7 @@ use Rattle.qualified_goals.specs.Variable.{qual_cmp}
 use Rattle.plan_components.specs.declared.node.Node.{Node}
 use Rattle.plan_components.specs.declared.node.Piece.{Piece}
 use Rattle.plan_components.specs.declared.node.Piece.TheVariants.{One, Whole}
-use Rattle.elaborate.specs.declared.told.Told.{Told}
+use Rattle.elaborate.specs.declared.told.LinedNode.{LinedNode}
 
 -- a whole package before its components, which are in file order
 abbrev pub piece_cmp : Piece → Piece → Ordering
@@ -22,8 +22,8 @@ abbrev pub node_cmp : Node → Node → Ordering
 node_cmp a b = ordering_then (qual_cmp a.qual b.qual) (ordering_then (nat_cmp a.«package» b.«package») (piece_cmp a.piece b.piece))
 
 -- By name, version, component, identifier and qualifier. Package and piece then break every tie.
-abbrev pub told_cmp : Told → Told → Ordering
-told_cmp a b =
+abbrev pub lined_cmp : LinedNode → LinedNode → Ordering
+lined_cmp a b =
     ordering_then (ordering_then (ordering_then (ordering_then
     (slice_cmp nat_cmp a.line.name b.line.name)
     (order a.line.version.parts b.line.version.parts))

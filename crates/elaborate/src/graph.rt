@@ -3,7 +3,7 @@ ghost use Rattle.std.specs.Prelude.{◌≡◌, IfOk, map, slice_index_or, []};
 ghost use Rattle.plan_components.specs.SameNode.{place_of};
 ghost use Rattle.elaborate.specs.Ranks.{needs_at, rank_of, ranked_row};
 
-use crate::told::Told;
+use crate::told::LinedNode;
 use plan_components::{Need, Node, Reached};
 use plan_types::{List, NoMemory};
 use std::alloc::Global;
@@ -13,7 +13,7 @@ pub(crate) fn graph_of(
     alloc: Global,
     reached: &Reached,
     ranks: &[usize],
-    all: &[Told],
+    all: &[LinedNode],
 ) -> Result<List<List<usize>>, NoMemory>
     ensures { IfOk result (λ graph. graph ≡ map (ranked_row reached.now ranks.now) all.now) }
 {
@@ -28,7 +28,7 @@ fn ranked_row(
     alloc: Global,
     reached: &Reached,
     ranks: &[usize],
-    told: &Told,
+    told: &LinedNode,
 ) -> Result<List<usize>, NoMemory>
     ensures { IfOk result (λ row. row ≡ ranked_row reached.now ranks.now told.now) }
 {

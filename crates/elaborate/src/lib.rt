@@ -9,5 +9,5 @@ mod plan;
 mod ranks;
 mod told;
 
-pub use laws::{each_need_told_before, no_node_is_lacking, one_plan};
+pub use laws::{each_need_printed_before, no_node_is_lacking, one_plan};
 pub use plan::elaborate;

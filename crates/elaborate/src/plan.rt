@@ -8,7 +8,7 @@ ghost use Rattle.elaborate.specs.Plan.{IsPlan, line_at};
 
 use crate::graph::graph_of;
 use crate::ranks::ranks_of;
-use crate::told::{Told, sort_told, told_in};
+use crate::told::{LinedNode, lined_nodes, sort_lined};
 use build_order::build_order;
 use choice_problem::Choice;
 use node_lines::lines_of;
@@ -39,8 +39,8 @@ fn planned(alloc: Global, chosen: &Chosen<'_>) -> Result<List<PlanNode>, NoMemor
 {
     let reached = reach(alloc, chosen)?;
     let lines = lines_of(alloc, chosen, &reached)?;
-    let mut all = told_in(alloc, reached.nodes(), lines)?;
-    sort_told(&mut all)?;
+    let mut all = lined_nodes(alloc, reached.nodes(), lines)?;
+    sort_lined(&mut all)?;
     let ranks = ranks_of(alloc, &reached, all.as_slice())?;
     let graph = graph_of(alloc, &reached, ranks.as_slice(), all.as_slice())?;
     let places = build_order(alloc, graph.as_slice())?;
@@ -49,7 +49,7 @@ fn planned(alloc: Global, chosen: &Chosen<'_>) -> Result<List<PlanNode>, NoMemor
 }
 
 // The lines at these places.
-fn lines_at(alloc: Global, all: &[Told], places: &[usize]) -> Result<List<PlanNode>, NoMemory>
+fn lines_at(alloc: Global, all: &[LinedNode], places: &[usize]) -> Result<List<PlanNode>, NoMemory>
     requires { All (λ place. place < length all.now) places.now }
     ensures { IfOk result (λ lines. lines ≡ map (line_at all.now) places.now) }
 {

@@ -3,7 +3,7 @@ ghost use Rattle.std.specs.Prelude.{◌≡◌, ◌≢◌, AllPairs, IfOk, OnOk, 
 ghost use Rattle.plan_components.specs.SameNode.{place_of};
 ghost use Rattle.elaborate.specs.Ranks.{ranks_after, with_rank};
 
-use crate::told::Told;
+use crate::told::LinedNode;
 use plan_components::Reached;
 use plan_types::NoMemory;
 use std::alloc::Global;
@@ -12,7 +12,7 @@ use std::alloc::Global;
 pub(crate) fn ranks_of(
     alloc: Global,
     reached: &Reached,
-    all: &[Told],
+    all: &[LinedNode],
 ) -> Result<Vec<usize>, NoMemory>
     ensures { IfOk result (λ ranks. ranks.items ≡ ranks_after reached.now.set.keys all.now) }
 {

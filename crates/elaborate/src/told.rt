@@ -1,8 +1,8 @@
 // The nodes of a plan that have lines.
 ghost use Rattle.std.specs.Prelude.{◌≡◌, ◌++◌, IfOk, OnOk, length};
 ghost use Rattle.std.specs.List.Sorted.{IsPermutation, IsSorted};
-ghost use Rattle.elaborate.specs.Telling.{told_in, told_one};
-ghost use Rattle.elaborate.specs.Told.{told_cmp};
+ghost use Rattle.elaborate.specs.Telling.{lined_nodes, lined_node};
+ghost use Rattle.elaborate.specs.Told.{lined_cmp};
 
 use plan_components::Node;
 use plan_nodes::PlanNode;
@@ -12,19 +12,19 @@ use std::cmp::Ordering;
 
 /// A node and its line.
 #[derive(Debug, Drop)]
-pub struct Told {
+pub struct LinedNode {
     pub node: Node,
     pub line: PlanNode,
 }
 
 /// The nodes that have lines.
-pub(crate) fn told_in(
+pub(crate) fn lined_nodes(
     alloc: Global,
     nodes: &[Node],
     lines: List<Option<PlanNode>>,
-) -> Result<Vec<Told>, NoMemory>
+) -> Result<Vec<LinedNode>, NoMemory>
     requires { length lines ≡ length nodes.now }
-    ensures { IfOk result (λ all. all.items ≡ told_in nodes.now lines) }
+    ensures { IfOk result (λ all. all.items ≡ lined_nodes nodes.now lines) }
 {
     let mut all = Vec::new(alloc);
     let mut place = 0;
@@ -35,12 +35,12 @@ pub(crate) fn told_in(
     Ok(all)
 }
 
-fn push_told(all: &mut Vec<Told>, node: Node, line: Option<PlanNode>) -> Result<(), NoMemory>
-    ensures { OnOk result (all.new.items ≡ all.old.items ++ told_one node line) }
+fn push_told(all: &mut Vec<LinedNode>, node: Node, line: Option<PlanNode>) -> Result<(), NoMemory>
+    ensures { OnOk result (all.new.items ≡ all.old.items ++ lined_node node line) }
 {
     match line {
         Some(line) => {
-            all.push(Told { node, line })?;
+            all.push(LinedNode { node, line })?;
             Ok(())
         }
         None => Ok(()),
@@ -48,16 +48,16 @@ fn push_told(all: &mut Vec<Told>, node: Node, line: Option<PlanNode>) -> Result<
 }
 
 /// Sorts nodes by name, version, component and identifier, then by qualifier, package and piece.
-pub(crate) fn sort_told(all: &mut Vec<Told>) -> Result<(), NoMemory>
+pub(crate) fn sort_lined(all: &mut Vec<LinedNode>) -> Result<(), NoMemory>
     ensures permutation { IsPermutation all.old.items all.new.items }
-    ensures sorted { OnOk result (IsSorted told_cmp all.new.items) }
+    ensures sorted { OnOk result (IsSorted lined_cmp all.new.items) }
 {
     all.sort_by(|one, other| compare(one, other))?;
     Ok(())
 }
 
-fn compare(one: &Told, other: &Told) -> Ordering
-    ensures { result ≡ told_cmp one.now other.now }
+fn compare(one: &LinedNode, other: &LinedNode) -> Ordering
+    ensures { result ≡ lined_cmp one.now other.now }
 {
     one.line
         .name

@@ -12,17 +12,17 @@ use Rattle.node_lines.specs.Along.{lines_along}
 use Rattle.node_lines.specs.Lines.{AreLines}
 use Rattle.node_lines.specs.Numbers.{graph_of as places_of}
 use Rattle.node_lines.proofs.LineMaking.{are_lines}
-use Rattle.elaborate.specs.declared.told.Told.{Told}
+use Rattle.elaborate.specs.declared.told.LinedNode.{LinedNode}
 use Rattle.elaborate.specs.Plan.{IsPlan, graph_of, line_at}
-use Rattle.elaborate.specs.Telling.{told_in}
-use Rattle.elaborate.specs.Told.{told_cmp}
+use Rattle.elaborate.specs.Telling.{lined_nodes}
+use Rattle.elaborate.specs.Told.{lined_cmp}
 use Rattle.elaborate.proofs.NodeOrder.{told-order}
 use Rattle.elaborate.proofs.PlannedNodes.{ranked}
 use Rattle.plan_answers.proofs.Reached.{some_reached}
 
 -- the order in which nodes with lines are sorted
-abbrev is_before : Told → Told → Bool
-is_before s t = is_lt (told_cmp s t)
+abbrev is_before : LinedNode → LinedNode → Bool
+is_before s t = is_lt (lined_cmp s t)
 
 module _ (selection : Selection) where
   abbrev Planned : Type 0
@@ -30,7 +30,7 @@ module _ (selection : Selection) where
 
   from-lines : (reached : Reached) → AreReached selection reached → (lines : List (Option PlanNode)) → AreLines selection reached.set.keys lines → Planned
   from-lines reached are lines have =
-      let found = told_in reached.set.keys lines in
+      let found = lined_nodes reached.set.keys lines in
       let all = put_all is_before told-order found in
       let places = some_order (graph_of selection all) in (
         each_line_once (map (line_at all) places.0),

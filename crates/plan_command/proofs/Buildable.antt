@@ -17,7 +17,7 @@ use Rattle.plan_command.specs.declared.output.Output.{Output}
 use Rattle.plan_command.specs.declared.status.Status.{Status}
 use Rattle.plan_command.specs.declared.status.Status.TheVariants.{Planned}
 use Rattle.plan_command.specs.Output.{IsOutputOfOutcome}
-use Rattle.plan_command.specs.Run.{BuildsInOrder, IsFormOf, IsInOrder, IsOutputOfSome, MayPrint, Prints, minimizes, of_refusal, of_task, picking_for}
+use Rattle.plan_command.specs.Run.{BuildsInOrder, IsFormOf, IsInOrder, IsPossibleOutput, MayPrint, Prints, minimizes, of_refusal, of_task, picking_for}
 use Rattle.plan_command.proofs.Outputs.{prints-wider}
 
 module _ (picking : Picking) (minimize : Bool) (IsForm : Form → Type 0) where
@@ -43,7 +43,7 @@ module _ (picking : Picking) (minimize : Bool) (IsForm : Form → Type 0) where
     by-outcome (outcome.NoPlan set counts) same output is e = let other = ap (λ (o : Output). o.status) (sym is) ∙ e in absurd (cc other)
     by-outcome (outcome.GaveUp counts) same output is e = let other = ap (λ (o : Output). o.status) (sym is) ∙ e in absurd (cc other)
 
-  by-some : (output : Output) → IsOutputOfSome picking minimize IsForm output → output.status ≡ Planned → IsInOrder picking minimize IsForm output
+  by-some : (output : Output) → IsPossibleOutput picking minimize IsForm output → output.status ≡ Planned → IsInOrder picking minimize IsForm output
   by-some output (of_refusal refusal is) e = let other = ap (λ (o : Output). o.status) (sym is) ∙ e in absurd (cc other)
   by-some output (of_task form of task ready is) e = by-outcome form of task ready is.finding is.found is.finding.outcome refl output is.output_is e
 

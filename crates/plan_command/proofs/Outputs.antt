@@ -23,11 +23,11 @@ use Rattle.plan_command.specs.declared.status.Status.TheVariants as status
 use Rattle.plan_command.specs.Output.{IsOutputOfOutcome, refused}
 use Rattle.plan_command.specs.Meaning.{Means, MeansReplay, MeansTask, MeansWith, at_events, of_events, of_files}
 use Rattle.plan_command.specs.Form.{frozen_form}
-use Rattle.plan_command.specs.Run.{IsOutputOfFreeze, IsOutputOfPlan, IsOutputOfReplay, IsOutputOfSome, IsOutputOfTask, Prints, of_refusal, of_task}
+use Rattle.plan_command.specs.Run.{IsOutputOfFreeze, IsOutputOfPlan, IsOutputOfReplay, IsPossibleOutput, IsOutputOfTask, Prints, of_refusal, of_task}
 
--- `IsOutputOfSome` is monotone in the forms
+-- `IsPossibleOutput` is monotone in the forms
 pub some-wider : (picking : Picking) (minimize : Bool) (P Q : Form → Type 0) → ((form : Form) → P form → Q form) → (output : Output)
-    → IsOutputOfSome picking minimize P output → IsOutputOfSome picking minimize Q output
+    → IsPossibleOutput picking minimize P output → IsPossibleOutput picking minimize Q output
 some-wider picking minimize P Q wider output (of_refusal refusal is) = of_refusal refusal is
 some-wider picking minimize P Q wider output (of_task form of task ready is) = of_task form (wider form of) task ready is
 

@@ -32,24 +32,24 @@ abbrev pub summary_of : ℕ → List Choice → List PlanNode → Counts → Byt
 summary_of number trail nodes counts text = summary_text number (length trail) (length nodes) counts (encode_lower (sha256 text))
 
 -- whether a text is empty or ends with a line feed
-abbrev pub is_ended : Bytes → Bool
-is_ended text = length text == 0 || ends_with nat_eq text (10 ∷ [])
+abbrev pub ends_with_newline : Bytes → Bool
+ends_with_newline text = length text == 0 || ends_with nat_eq text (10 ∷ [])
 
 -- a text whose last line ends with a line feed
-abbrev pub ended : Bytes → Bytes
-ended text = if is_ended text then text else text ++ 10 ∷ []
+abbrev pub with_newline : Bytes → Bytes
+with_newline text = if ends_with_newline text then text else text ++ 10 ∷ []
 
 -- the old freeze file, and then the constraints of a trail
 abbrev pub frozen_text : Bytes → Index → NameTable → List Choice → Bytes
-frozen_text before index names trail = ended before ++ freeze_text (frozen index.packages names trail)
+frozen_text before index names trail = with_newline before ++ freeze_text (frozen index.packages names trail)
 
 -- the text of the old freeze file, empty if it is missing
-abbrev pub said_before : Option Bytes → Bytes
-said_before file = unwrap_or file []
+abbrev pub old_freeze_text : Option Bytes → Bytes
+old_freeze_text file = unwrap_or file []
 
 -- the form of constraints after the freeze file of a folder
 abbrev pub frozen_form : Files → Form
-frozen_form files = Freeze (said_before (freeze_bytes files))
+frozen_form files = Freeze (old_freeze_text (freeze_bytes files))
 
 -- the text of a plan in a form
 abbrev pub IsPlanText : Form → Index → NameTable → List Choice → List PlanNode → Counts → Bytes → Type 0
@@ -68,8 +68,8 @@ is_json (Freeze before) = false
 is_json (Replay slots events) = false
 
 -- a conflict set, as JSON or in lines
-abbrev pub whole_text_in : Bool → Index → NameTable → List Var → Counts → Bytes
-whole_text_in json index names set counts = if json then conflict_json index names set counts else conflict_text index names set counts
+abbrev pub unshrunk_text_in : Bool → Index → NameTable → List Var → Counts → Bytes
+unshrunk_text_in json index names set counts = if json then conflict_json index names set counts else conflict_text index names set counts
 
 -- a shrunk conflict set, as JSON or in lines
 abbrev pub shrunk_text_in : Bool → Index → NameTable → List Var → List (List Choice) → Counts → Bytes
@@ -83,7 +83,7 @@ not_shrunk_text_in json index names set spent counts =
 
 -- a conflict in a form, with its blame
 abbrev pub conflict_text_in : Form → Index → NameTable → List Var → Blame → Counts → Bytes
-conflict_text_in form index names set Unasked counts = whole_text_in (is_json form) index names set counts
+conflict_text_in form index names set Unasked counts = unshrunk_text_in (is_json form) index names set counts
 conflict_text_in form index names set (Shrunk shrunk) counts = shrunk_text_in (is_json form) index names shrunk.set shrunk.maps counts
 conflict_text_in form index names set (TooLong spent) counts = not_shrunk_text_in (is_json form) index names set spent counts
 

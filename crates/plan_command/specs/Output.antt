@@ -52,23 +52,23 @@ abbrev pub usage : Output
 usage = record { status = status.Usage; text = usage_text }
 
 -- the status of an output, not that of a run that failed
-abbrev pub IsMade : Status → Type 0
-IsMade status.Planned = Unit {0}
-IsMade status.NoPlan = Unit {0}
-IsMade status.GaveUp = Unit {0}
-IsMade status.Refused = Unit {0}
-IsMade status.Usage = Unit {0}
-IsMade status.ReadFault = ⊥
-IsMade status.WriteFault = ⊥
-IsMade status.NoMemory = ⊥
+abbrev pub HasOutput : Status → Type 0
+HasOutput status.Planned = Unit {0}
+HasOutput status.NoPlan = Unit {0}
+HasOutput status.GaveUp = Unit {0}
+HasOutput status.Refused = Unit {0}
+HasOutput status.Usage = Unit {0}
+HasOutput status.ReadFault = ⊥
+HasOutput status.WriteFault = ⊥
+HasOutput status.NoMemory = ⊥
 
 -- the end of a run whose words have no reading: the usage line was written, or its write failed
-abbrev pub IsUsage : Status → Type 0
-IsUsage status.Usage = Unit {0}
-IsUsage status.WriteFault = Unit {0}
-IsUsage status.Planned = ⊥
-IsUsage status.NoPlan = ⊥
-IsUsage status.GaveUp = ⊥
-IsUsage status.Refused = ⊥
-IsUsage status.ReadFault = ⊥
-IsUsage status.NoMemory = ⊥
+abbrev pub IsUsageEnd : Status → Type 0
+IsUsageEnd status.Usage = Unit {0}
+IsUsageEnd status.WriteFault = Unit {0}
+IsUsageEnd status.Planned = ⊥
+IsUsageEnd status.NoPlan = ⊥
+IsUsageEnd status.GaveUp = ⊥
+IsUsageEnd status.Refused = ⊥
+IsUsageEnd status.ReadFault = ⊥
+IsUsageEnd status.NoMemory = ⊥

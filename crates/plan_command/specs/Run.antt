@@ -13,7 +13,7 @@ use Rattle.command_line.specs.declared.reading.Command.TheVariants.{Plan, Genera
 use Rattle.command_line.specs.declared.reading.Options.{Options}
 use Rattle.event_file.specs.Events.{AreEventsAt}
 use Rattle.replay_text.specs.declared.event.JobEvent.{JobEvent}
-use Rattle.elaborate.specs.Before.{AreToldBefore}
+use Rattle.elaborate.specs.Before.{NeedsPrintedBefore}
 use Rattle.plan_nodes.specs.declared.node.PlanNode.{PlanNode}
 use Rattle.plan_generate.specs.Generated.{generated}
 use Rattle.plan_task.specs.Task.{IsReady, IsTask}
@@ -117,15 +117,15 @@ minimizes (Freeze options) = false
 minimizes (Replay options path slots) = false
 
 -- the output of a refusal, or of some ready task, in one of these forms
-pub data IsOutputOfSome (picking : Picking) (minimize : Bool) (IsForm : Form → Type 0) (output : Output) : Type 0 where
-  of_refusal : (refusal : Refusal) → output ≡ refused refusal → IsOutputOfSome picking minimize IsForm output
+pub data IsPossibleOutput (picking : Picking) (minimize : Bool) (IsForm : Form → Type 0) (output : Output) : Type 0 where
+  of_refusal : (refusal : Refusal) → output ≡ refused refusal → IsPossibleOutput picking minimize IsForm output
   of_task : (form : Form) → IsForm form → (task : Task) → IsReady task → IsOutputOfTask picking minimize form task output
-      → IsOutputOfSome picking minimize IsForm output
+      → IsPossibleOutput picking minimize IsForm output
 
 -- an output that a command may have, or the usage line for words without a reading
 abbrev pub MayPrint : Option Command → Output → Type 0
 MayPrint None output = output ≡ usage
-MayPrint (Some command) output = IsOutputOfSome (picking_for command) (minimizes command) (IsFormOf command) output
+MayPrint (Some command) output = IsPossibleOutput (picking_for command) (minimizes command) (IsFormOf command) output
 
 -- The output of the plan that a search over some ready task finds. Each identifier that a node needs is printed
 -- before the node.
@@ -142,7 +142,7 @@ pub record IsInOrder (picking : Picking) (minimize : Bool) (IsForm : Form → Ty
   pub nodes : List PlanNode
   pub nodes_are : ArePlanned task.settings.env task.index finding.names trail nodes
   pub planned : IsPlanned form task.index finding.names trail nodes counts output
-  pub told_before : AreToldBefore nodes
+  pub told_before : NeedsPrintedBefore nodes
 
 -- some output of a command that is a plan in order
 abbrev pub OutputInOrder : Command → Type 0

@@ -7,7 +7,7 @@ ghost use Rattle.plan_types.specs.declared.limit.Limit.{Limit as TheLimit};
 ghost use Rattle.command_line.specs.Reading.{IsBounded, reading};
 ghost use Rattle.command_line.specs.declared.reading.Command.TheVariants.{Freeze, Generate, Plan, Replay};
 ghost use Rattle.command_line.specs.declared.reading.Options.{Options as PlanOptions};
-ghost use Rattle.plan_command.specs.Output.{IsMade, IsUsage, usage};
+ghost use Rattle.plan_command.specs.Output.{HasOutput, IsUsageEnd, usage};
 ghost use Rattle.plan_command.specs.Form.{form_of};
 ghost use Rattle.plan_command.specs.Asked.{picking_of};
 ghost use Rattle.plan_search.specs.declared.search.Picking.TheVariants.{Least, MostMet};
@@ -71,17 +71,17 @@ pub fn run<F: Folder, S: Sink>(alloc: Global, words: &[Text], folder: &mut F, ou
     // `generate` plans the folder generated from its number, and leaves the given folder as it was.
     ensures generated { (number : ℕ) (limit : TheLimit) → reading words.now ≡ Some (Generate number limit)
         → Prints (MeansGenerated number limit) (S.bytes out.old) (S.bytes out.new) result }
-    ensures unasked { (number : ℕ) (limit : TheLimit) → reading words.now ≡ Some (Generate number limit)
+    ensures folder_untouched { (number : ℕ) (limit : TheLimit) → reading words.now ≡ Some (Generate number limit)
         → (folder.new ≡ folder.old) × (result ≢ Status.ReadFault) }
 
     // No failure is hidden: the folder's count of faults rises only with the status `ReadFault`, and the sink's only
     // with `WriteFault`.
     ensures folder { Leaves F.tells F.faults folder.old folder.new (result ≡ Status.ReadFault) }
     ensures sink { S.faults out.old ≤ S.faults out.new }
-    ensures sink_still { result ≢ Status.WriteFault → S.faults out.new ≡ S.faults out.old }
+    ensures sink_unchanged { result ≢ Status.WriteFault → S.faults out.new ≡ S.faults out.old }
     ensures write_fault { result ≡ Status.WriteFault → Rose (S.faults out.old) (S.faults out.new) }
     ensures usage { result ≡ Status.Usage → reading words.now ≡ None }
-    ensures no_reading { reading words.now ≡ None → IsUsage result }
+    ensures no_reading { reading words.now ≡ None → IsUsageEnd result }
 {
     match read_words(alloc, words) {
         Ok(command) => perform(alloc, command, folder, out),
@@ -94,9 +94,9 @@ pub fn run<F: Folder, S: Sink>(alloc: Global, words: &[Text], folder: &mut F, ou
 pub fn print_usage<S: Sink>(out: &mut S) -> Status
     ensures prints { Prints (λ output. output ≡ usage) (S.bytes out.old) (S.bytes out.new) result }
     ensures sink { S.faults out.old ≤ S.faults out.new }
-    ensures sink_still { result ≢ Status.WriteFault → S.faults out.new ≡ S.faults out.old }
+    ensures sink_unchanged { result ≢ Status.WriteFault → S.faults out.new ≡ S.faults out.old }
     ensures write_fault { result ≡ Status.WriteFault → Rose (S.faults out.old) (S.faults out.new) }
-    ensures status { IsUsage result }
+    ensures status { IsUsageEnd result }
 {
     match write_all(out, USAGE.as_bytes()) {
         Ok(()) => Status::Usage,
@@ -125,12 +125,12 @@ fn perform<F: Folder, S: Sink>(
         → Prints (IsOutputOfCommand (Some command) files) (S.bytes out.old) (S.bytes out.new) result }
     ensures generated { (number : ℕ) (limit : TheLimit) → command ≡ Generate number limit
         → Prints (MeansGenerated number limit) (S.bytes out.old) (S.bytes out.new) result }
-    ensures unasked { (number : ℕ) (limit : TheLimit) → command ≡ Generate number limit
+    ensures folder_untouched { (number : ℕ) (limit : TheLimit) → command ≡ Generate number limit
         → (folder.new ≡ folder.old) × (result ≢ Status.ReadFault) }
     ensures one_text { Prints (MayPrint (Some command)) (S.bytes out.old) (S.bytes out.new) result }
     ensures folder { Leaves F.tells F.faults folder.old folder.new (result ≡ Status.ReadFault) }
     ensures sink { S.faults out.old ≤ S.faults out.new }
-    ensures sink_still { result ≢ Status.WriteFault → S.faults out.new ≡ S.faults out.old }
+    ensures sink_unchanged { result ≢ Status.WriteFault → S.faults out.new ≡ S.faults out.old }
     ensures write_fault { result ≡ Status.WriteFault → Rose (S.faults out.old) (S.faults out.new) }
     ensures read { result ≢ Status.Usage }
 {
@@ -157,10 +157,10 @@ fn output_of<F: Folder>(alloc: Global, command: Command, folder: &mut F) -> Resu
         → IfOk result (IsOutputOfCommand (Some command) files) }
     ensures generated { (number : ℕ) (limit : TheLimit) → command ≡ Generate number limit
         → IfOk result (MeansGenerated number limit) }
-    ensures unasked { (number : ℕ) (limit : TheLimit) → command ≡ Generate number limit
+    ensures folder_untouched { (number : ℕ) (limit : TheLimit) → command ≡ Generate number limit
         → (folder.new ≡ folder.old) × (IsErrOf result Trouble.Failed → ⊥) }
     ensures form { IfOk result (MayPrint (Some command)) }
-    ensures made { IfOk result (λ output. IsMade output.status) }
+    ensures made { IfOk result (λ output. HasOutput output.status) }
     ensures read { IfOk result (λ output. output.status ≢ Status.Usage) }
     ensures folder { Leaves F.tells F.faults folder.old folder.new (IsErrOf result Trouble.Failed) }
 {
@@ -184,10 +184,10 @@ fn output_of<F: Folder>(alloc: Global, command: Command, folder: &mut F) -> Resu
 
 // Writes an output, and returns its status if the whole text was written.
 fn print<S: Sink>(output: &Output, out: &mut S) -> Status
-    requires { IsMade output.now.status }
+    requires { HasOutput output.now.status }
     ensures prints { Prints (λ printed. printed ≡ output.now) (S.bytes out.old) (S.bytes out.new) result }
     ensures sink { S.faults out.old ≤ S.faults out.new }
-    ensures sink_still { result ≢ Status.WriteFault → S.faults out.new ≡ S.faults out.old }
+    ensures sink_unchanged { result ≢ Status.WriteFault → S.faults out.new ≡ S.faults out.old }
     ensures write_fault { result ≡ Status.WriteFault → Rose (S.faults out.old) (S.faults out.new) }
     ensures status { result ≢ Status.WriteFault → result ≡ output.now.status }
     ensures no_read_fault { result ≢ Status.ReadFault }

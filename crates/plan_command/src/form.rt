@@ -1,7 +1,7 @@
 // The form in which an answer is printed.
 ghost use Rattle.std.specs.Prelude.{◌≡◌, IfOk};
 ghost use Rattle.choice_problem.specs.Trail.{AreNew};
-ghost use Rattle.plan_command.specs.Form.{IsPlanText, conflict_text_in, form_of, gave_up_text_in, is_json, not_shrunk_text_in, shrunk_text_in, summary_of, whole_text_in};
+ghost use Rattle.plan_command.specs.Form.{IsPlanText, conflict_text_in, form_of, gave_up_text_in, is_json, not_shrunk_text_in, shrunk_text_in, summary_of, unshrunk_text_in};
 
 use crate::freeze::frozen_text;
 use choice_problem::{Choice, ConflictSet, Counts};
@@ -129,7 +129,7 @@ fn whole_text(
     names: &Names,
     counts: Counts,
 ) -> Result<Text, NoMemory>
-    ensures { IfOk result (λ text. text ≡ whole_text_in json index.now names.now set.now counts) }
+    ensures { IfOk result (λ text. text ≡ unshrunk_text_in json index.now names.now set.now counts) }
 {
     if json {
         json_of_conflict(alloc, set, index, names, counts)

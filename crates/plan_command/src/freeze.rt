@@ -3,9 +3,9 @@ ghost use Rattle.std.specs.Prelude.{◌≡◌, ◌≢◌, IfOk, IsErrOf, Some};
 ghost use Rattle.choice_problem.specs.Trail.{AreNew};
 ghost use Rattle.outside_folder.specs.Calls.{Leaves};
 ghost use Rattle.outside_folder.specs.Files.{Files};
-ghost use Rattle.plan_command.specs.Form.{ended, frozen_text, is_ended, said_before};
+ghost use Rattle.plan_command.specs.Form.{with_newline, frozen_text, ends_with_newline, old_freeze_text};
 ghost use Rattle.command_line.specs.declared.reading.Command.TheVariants.{Freeze};
-ghost use Rattle.plan_command.specs.Output.{IsMade};
+ghost use Rattle.plan_command.specs.Output.{HasOutput};
 ghost use Rattle.plan_command.specs.Meaning.{MeansFreeze};
 ghost use Rattle.plan_command.specs.Run.{IsOutputOfFreeze, MayPrint};
 
@@ -33,13 +33,13 @@ pub(crate) fn output_of_freeze<F: Folder>(
     ensures meaning { (files : Files) → F.tells folder.old ≡ Some files → IfOk result (MeansFreeze options files) }
     ensures told { (files : Files) → F.tells folder.old ≡ Some files → IfOk result (IsOutputOfFreeze options files) }
     ensures form { IfOk result (MayPrint (Some (Freeze options))) }
-    ensures made { IfOk result (λ output. IsMade output.status) }
+    ensures made { IfOk result (λ output. HasOutput output.status) }
     ensures read { IfOk result (λ output. output.status ≢ Status.Usage) }
     ensures folder { Leaves F.tells F.faults folder.old folder.new (IsErrOf result Trouble.Failed) }
 {
     match read_task(alloc, options, folder) {
         Ok(task) => {
-            let before = said_before(alloc, &task.freeze)?;
+            let before = old_freeze_text(alloc, &task.freeze)?;
             let form = Form::Freeze(before);
             Ok(planned(alloc, Picking::Least, false, &form, &task)?)
         }
@@ -47,8 +47,8 @@ pub(crate) fn output_of_freeze<F: Folder>(
     }
 }
 
-fn said_before(alloc: Global, file: &Option<Text>) -> Result<Text, NoMemory>
-    ensures { IfOk result (λ text. text ≡ said_before file.now) }
+fn old_freeze_text(alloc: Global, file: &Option<Text>) -> Result<Text, NoMemory>
+    ensures { IfOk result (λ text. text ≡ old_freeze_text file.now) }
 {
     match file {
         Some(text) => text.copy(),
@@ -69,24 +69,24 @@ pub(crate) fn frozen_text(
 {
     let project = freeze(alloc, trail, index, names)?;
     let constraints = text_of_freeze(alloc, &project)?;
-    let mut text = ended(before)?;
+    let mut text = with_newline(before)?;
     text.push_str(constraints.as_str())?;
     Ok(text)
 }
 
 // A text whose last line ends with a line feed.
-fn ended(text: &Text) -> Result<Text, NoMemory>
-    ensures { IfOk result (λ copied. copied ≡ ended text.now) }
+fn with_newline(text: &Text) -> Result<Text, NoMemory>
+    ensures { IfOk result (λ copied. copied ≡ with_newline text.now) }
 {
     let mut copied = text.copy()?;
-    if !is_ended(text.as_bytes()) {
+    if !ends_with_newline(text.as_bytes()) {
         copied.push_str("\n")?;
     }
     Ok(copied)
 }
 
-fn is_ended(text: &[u8]) -> bool
-    ensures { result ≡ is_ended text.now }
+fn ends_with_newline(text: &[u8]) -> bool
+    ensures { result ≡ ends_with_newline text.now }
 {
     text.is_empty() || text.ends_with(b"\n")
 }

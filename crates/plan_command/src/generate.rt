@@ -1,7 +1,7 @@
 // The command `generate`: a plan of the folder generated from a number.
 ghost use Rattle.std.specs.Prelude.{◌≡◌, ◌≢◌, ◌≤◌, IfOk, Some};
 ghost use Rattle.command_line.specs.declared.reading.Command.TheVariants.{Generate};
-ghost use Rattle.plan_command.specs.Output.{IsMade};
+ghost use Rattle.plan_command.specs.Output.{HasOutput};
 ghost use Rattle.plan_command.specs.Meaning.{MeansGenerated};
 ghost use Rattle.plan_command.specs.Run.{IsOutputOfGenerate, MayPrint};
 
@@ -11,7 +11,7 @@ use crate::output::Output;
 use crate::plan::output_of_plan;
 use command_line::default_options;
 use outside_folder::Trouble;
-use plan_generate::{SureFolder, generate};
+use plan_generate::{FaultlessFolder, generate};
 use plan_types::{Limit, NoMemory};
 use std::alloc::Global;
 
@@ -25,11 +25,11 @@ pub(crate) fn output_of_generate(
     ensures meaning { IfOk result (MeansGenerated number limit) }
     ensures output { IfOk result (IsOutputOfGenerate number limit) }
     ensures form { IfOk result (MayPrint (Some (Generate number limit))) }
-    ensures made { IfOk result (λ output. IsMade output.status) }
+    ensures made { IfOk result (λ output. HasOutput output.status) }
     ensures read { IfOk result (λ output. output.status ≢ Status.Usage) }
 {
     let options = default_options(alloc, limit)?;
-    let mut folder = SureFolder::new(generate(alloc, number)?);
+    let mut folder = FaultlessFolder::new(generate(alloc, number)?);
     match output_of_plan(alloc, &Form::Summary(number), options, &mut folder) {
         Ok(output) => Ok(output),
         Err(Trouble::NoMemory) => Err(NoMemory),

@@ -6,7 +6,7 @@ ghost use Rattle.choice_problem.specs.Trail.{AreNew};
 ghost use Rattle.choice_problem.specs.declared.outcome.Counts.{Counts as TheCounts};
 ghost use Rattle.choice_problem.specs.declared.outcome.Outcome.TheVariants.{Found};
 ghost use Rattle.choice_problem.specs.declared.problem.Choice.{Choice as TheChoice};
-ghost use Rattle.plan_command.specs.Output.{IsMade, IsOutputOfOutcome, refused};
+ghost use Rattle.plan_command.specs.Output.{HasOutput, IsOutputOfOutcome, refused};
 
 use crate::Status;
 use crate::form::{Form, conflict_text_in, gave_up_text_in, plan_text_in};
@@ -29,10 +29,10 @@ pub(crate) struct Output {
 pub(crate) fn halted(alloc: Global, halt: Halt) -> Result<Output, Trouble>
     ensures refused { IfOk result (λ output. (refusal : TheRefusal) × (halt ≡ Halt.Refused refusal)
         × (output ≡ refused refusal)) }
-    ensures made { IfOk result (λ output. IsMade output.status) }
+    ensures made { IfOk result (λ output. HasOutput output.status) }
     ensures read { IfOk result (λ output. output.status ≢ Status.Usage) }
     ensures failed { IsErrOf result Trouble.Failed → halt ≡ Halt.Failed }
-    ensures handed_on { halt ≡ Halt.Failed → IsErrOf result Trouble.Failed }
+    ensures failure_passed_on { halt ≡ Halt.Failed → IsErrOf result Trouble.Failed }
 {
     match halt {
         Halt::Refused(refusal) => Ok(refused(alloc, &refusal)?),
@@ -43,7 +43,7 @@ pub(crate) fn halted(alloc: Global, halt: Halt) -> Result<Output, Trouble>
 
 fn refused(alloc: Global, refusal: &Refusal) -> Result<Output, NoMemory>
     ensures output { IfOk result (λ output. output ≡ refused refusal.now) }
-    ensures made { IfOk result (λ output. IsMade output.status) }
+    ensures made { IfOk result (λ output. HasOutput output.status) }
     ensures read { IfOk result (λ output. output.status ≢ Status.Usage) }
 {
     Ok(Output {
@@ -64,7 +64,7 @@ pub(crate) fn output_of_finding(
         → AreNew trail }
     ensures output { IfOk result (IsOutputOfOutcome form.now env.now index.now finding.now.names finding.now.blame
         finding.now.outcome) }
-    ensures made { IfOk result (λ output. IsMade output.status) }
+    ensures made { IfOk result (λ output. HasOutput output.status) }
     ensures read { IfOk result (λ output. output.status ≢ Status.Usage) }
 {
     let names = &finding.names;

@@ -3,7 +3,7 @@ ghost use Rattle.std.specs.Prelude.{◌≡◌, ◌≢◌, IfOk, IsErrOf, Some};
 ghost use Rattle.outside_folder.specs.Calls.{Leaves};
 ghost use Rattle.outside_folder.specs.Files.{Files};
 ghost use Rattle.command_line.specs.declared.reading.Command.TheVariants.{Replay};
-ghost use Rattle.plan_command.specs.Output.{IsMade};
+ghost use Rattle.plan_command.specs.Output.{HasOutput};
 ghost use Rattle.plan_command.specs.Meaning.{MeansReplay};
 ghost use Rattle.plan_command.specs.Run.{IsOutputOfReplay, MayPrint};
 
@@ -32,7 +32,7 @@ pub(crate) fn output_of_replay<F: Folder>(
     ensures told { (files : Files) → F.tells folder.old ≡ Some files
         → IfOk result (IsOutputOfReplay options events.now slots files) }
     ensures form { IfOk result (MayPrint (Some (Replay options events.now slots))) }
-    ensures made { IfOk result (λ output. IsMade output.status) }
+    ensures made { IfOk result (λ output. HasOutput output.status) }
     ensures read { IfOk result (λ output. output.status ≢ Status.Usage) }
     ensures folder { Leaves F.tells F.faults folder.old folder.new (IsErrOf result Trouble.Failed) }
 {

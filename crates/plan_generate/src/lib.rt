@@ -9,4 +9,4 @@ mod sure_folder;
 mod text;
 
 pub use folder::generate;
-pub use sure_folder::SureFolder;
+pub use sure_folder::FaultlessFolder;

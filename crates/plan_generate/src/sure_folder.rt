@@ -8,27 +8,27 @@ use std::alloc::Global;
 
 /// A folder in memory on which no call fails, so its count of faults stays 0.
 #[derive(Drop)]
-pub struct SureFolder {
+pub struct FaultlessFolder {
     folder: MemFolder,
     ghost sure: { mem_fail_at folder ≡ [] },
 }
 
-impl SureFolder {
+impl FaultlessFolder {
     ghost use Rattle.outside_folder.specs.MemFolder.{mem_files};
-    ghost use Rattle.plan_generate.specs.SureFolder.{sure_files};
+    ghost use Rattle.plan_generate.specs.SureFolder.{faultless_files};
 
-    pub fn new(folder: MemFolder) -> SureFolder
+    pub fn new(folder: MemFolder) -> FaultlessFolder
         requires { mem_fail_at folder ≡ [] }
-        ensures { sure_files result ≡ mem_files folder }
+        ensures { faultless_files result ≡ mem_files folder }
     {
-        SureFolder { folder }
+        FaultlessFolder { folder }
     }
 }
 
-impl Folder for SureFolder {
-    ghost use Rattle.plan_generate.specs.SureFolder.{sure_files};
+impl Folder for FaultlessFolder {
+    ghost use Rattle.plan_generate.specs.SureFolder.{faultless_files};
 
-    ghost tells = { λ folder. Some (sure_files folder) };
+    ghost tells = { λ folder. Some (faultless_files folder) };
 
     ghost ceiling = { λ _. 0 };
 

@@ -17,8 +17,8 @@ use Rattle.serde_json.specs.Data.{Data, boolean, depth, string}
 use Rattle.serde_json.specs.Read.{max_depth}
 use Rattle.serde_json.specs.Written.{compact_text, has_float}
 use Rattle.plan_json.specs.Line.{IsPlain}
-use Rattle.plan_json.specs.Texts.{choice_json, conflict_json, freed_json, gave_up_json, line, list_text, node_json, not_shrunk_json, plan_json, shrunk_json, skipped_json, truth_text, variable_json, warning_json}
-use Rattle.plan_json.specs.Values.{choice_value, conflict_value, freed_value, gave_up_value, ids_value, list_of, node_value, not_shrunk_value, plan_value, shrunk_value, skipped_value, variable_value, warning_value}
+use Rattle.plan_json.specs.Texts.{choice_json, conflict_json, without_json, gave_up_json, line, list_text, node_json, not_shrunk_json, plan_json, shrunk_json, skipped_json, truth_text, variable_json, warning_json}
+use Rattle.plan_json.specs.Values.{choice_value, conflict_value, without_value, gave_up_value, ids_value, list_of, node_value, not_shrunk_value, plan_value, shrunk_value, skipped_value, variable_value, warning_value}
 use Rattle.plan_json.proofs.Lists.{at-most, list-deep, list-text, list-whole}
 
 -- ---- the texts of the parts
@@ -41,14 +41,14 @@ abbrev freed-with : NameTable → Var → List ℕ → List ℕ
 freed-with names v keep = concat (codes "{\"keep\":" ∷ keep ∷ codes ",\"var\":" ∷ variable_json names v ∷ codes "}" ∷ [])
 
 freed-shape : (index : Index) (names : NameTable) (freed : Var × List Choice)
-    → compact_text (freed_value index names freed) ≡ freed-with names freed.0 (compact_text (list_of (choice_value index names) freed.1))
+    → compact_text (without_value index names freed) ≡ freed-with names freed.0 (compact_text (list_of (choice_value index names) freed.1))
 unfolding escape_byte
 freed-shape index names freed = refl
 
 choices-text : (index : Index) (names : NameTable) (trail : List Choice) → compact_text (list_of (choice_value index names) trail) ≡ list_text (choice_json index names) trail
 choices-text index names trail = list-text (choice_value index names) (choice_json index names) (choice-text index names) trail
 
-freed-text : (index : Index) (names : NameTable) (freed : Var × List Choice) → compact_text (freed_value index names freed) ≡ freed_json index names freed
+freed-text : (index : Index) (names : NameTable) (freed : Var × List Choice) → compact_text (without_value index names freed) ≡ without_json index names freed
 freed-text index names freed = freed-shape index names freed ∙ ap (freed-with names freed.0) (choices-text index names freed.1)
 
 truth : (b : Bool) → compact_text (boolean b) ≡ truth_text b
@@ -142,7 +142,7 @@ conflict-shape index names set counts = refl
 
 shrunk-shape : (index : Index) (names : NameTable) (set : List Var) (maps : List (List Choice)) (counts : Counts)
     → compact_text (shrunk_value index names set maps counts)
-    ≡ shrunk-with counts (compact_text (list_of (variable_value names) set)) (compact_text (list_of (freed_value index names) (zip set maps))) (compact_text (list_of skipped_value index.skipped)) (compact_text (list_of warning_value index.warnings))
+    ≡ shrunk-with counts (compact_text (list_of (variable_value names) set)) (compact_text (list_of (without_value index names) (zip set maps))) (compact_text (list_of skipped_value index.skipped)) (compact_text (list_of warning_value index.warnings))
 unfolding escape_byte
 shrunk-shape index names set maps counts = refl
 
@@ -187,13 +187,13 @@ module _ (index : Index) where
         → shrunk_json index names set maps counts ≡ line (compact_text (shrunk_value index names set maps counts))
     unfolding escape_byte
     shrunk-text set maps counts =
-        let freed : compact_text (list_of (freed_value index names) (zip set maps)) ≡ list_text (freed_json index names) (zip set maps) =
-        list-text (freed_value index names) (freed_json index names) (freed-text index names) (zip set maps) in
+        let freed : compact_text (list_of (without_value index names) (zip set maps)) ≡ list_text (without_json index names) (zip set maps) =
+        list-text (without_value index names) (without_json index names) (freed-text index names) (zip set maps) in
         ap line
         (sym
         (shrunk-shape index names set maps counts
         ∙ ap₂ (λ conflict without. shrunk-with counts conflict without (compact_text (list_of skipped_value index.skipped)) (compact_text (list_of warning_value index.warnings))) (variables-text set) freed
-        ∙ ap₂ (shrunk-with counts (list_text (variable_json names) set) (list_text (freed_json index names) (zip set maps))) skipped-are warnings-are))
+        ∙ ap₂ (shrunk-with counts (list_text (variable_json names) set) (list_text (without_json index names) (zip set maps))) skipped-are warnings-are))
 
     pub not-shrunk-text : (set : List Var) (spent : ℕ) (counts : Counts)
         → not_shrunk_json index names set spent counts ≡ line (compact_text (not_shrunk_value index names set spent counts))
@@ -268,10 +268,10 @@ module _ (index : Index) where
           omega (arith, conflict, skipped, warnings);
     }
 
-    freed-whole : (freed : Var × List Choice) → has_float (freed_value index names freed) ≡ false
+    freed-whole : (freed : Var × List Choice) → has_float (without_value index names freed) ≡ false
     freed-whole freed = or_from _ _ (list-whole (choice_value index names) (λ choice. refl) freed.1) refl
 
-    freed-deep : (freed : Var × List Choice) → depth (freed_value index names freed) ≤ 3
+    freed-deep : (freed : Var × List Choice) → depth (without_value index names freed) ≤ 3
     freed-deep freed = let choices = choices-deep freed.1 in omega (arith, choices)
 
     pub shrunk-plain : (set : List Var) (maps : List (List Choice)) (counts : Counts) → IsPlain (shrunk_value index names set maps counts)
@@ -279,10 +279,10 @@ module _ (index : Index) where
       no_float =
           or_from _ _ (list-whole (variable_value names) (λ v. refl) set)
           (or_from _ _ skipped-whole
-          (or_from _ _ warnings-whole (or_from _ _ (list-whole (freed_value index names) freed-whole (zip set maps)) refl)));
+          (or_from _ _ warnings-whole (or_from _ _ (list-whole (without_value index names) freed-whole (zip set maps)) refl)));
       shallow =
           let conflict = variables-deep set in
-          let without = list-deep (freed_value index names) 3 freed-deep (zip set maps) in
+          let without = list-deep (without_value index names) 3 freed-deep (zip set maps) in
           let skipped = skipped-deep index in
           let warnings = warnings-deep index in
           omega (arith, conflict, without, skipped, warnings);

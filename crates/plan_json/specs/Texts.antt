@@ -92,8 +92,8 @@ conflict_json index names set counts =
     ∷ codes "}" ∷ []))
 
 -- a variable of a shrunk set, and the choices that hold without it
-abbrev pub freed_json : Index → NameTable → Var × List Choice → List ℕ
-freed_json index names freed =
+abbrev pub without_json : Index → NameTable → Var × List Choice → List ℕ
+without_json index names freed =
     concat
     (codes "{\"keep\":" ∷ list_text (choice_json index names) freed.1
     ∷ codes ",\"var\":" ∷ variable_json names freed.0
@@ -109,7 +109,7 @@ shrunk_json index names set maps counts =
     ∷ codes ",\"skipped\":" ∷ list_text skipped_json index.skipped
     ∷ codes ",\"status\":\"no plan\",\"visited\":" ∷ decimal counts.visited
     ∷ codes ",\"warnings\":" ∷ list_text warning_json index.warnings
-    ∷ codes ",\"without\":" ∷ list_text (freed_json index names) (zip set maps)
+    ∷ codes ",\"without\":" ∷ list_text (without_json index names) (zip set maps)
     ∷ codes "}" ∷ []))
 
 -- a conflict whose shrinking stopped after so many exhausted points

@@ -52,8 +52,8 @@ node_value node =
     (member (codes "unbuildable") (boolean node.unbuildable) no_members))))))
 
 -- members with those that each answer has: the counts, the notes on the index, and the status
-abbrev pub with_end : List ℕ → Index → Counts → Members → Members
-with_end head index counts members =
+abbrev pub with_common_members : List ℕ → Index → Counts → Members → Members
+with_common_members head index counts members =
     put (codes "exhausted") (number (unsigned counts.exhausted))
     (put (codes "skipped") (list_of skipped_value index.skipped)
     (put (codes "status") (string head)
@@ -84,8 +84,8 @@ conflict_value index names set counts =
     (member (codes "warnings") (list_of warning_value index.warnings) no_members))))))
 
 -- a variable of a shrunk set, and the choices that hold without it
-abbrev pub freed_value : Index → NameTable → Var × List Choice → Data
-freed_value index names freed =
+abbrev pub without_value : Index → NameTable → Var × List Choice → Data
+without_value index names freed =
     object (member (codes "keep") (list_of (choice_value index names) freed.1) (member (codes "var") (variable_value names freed.0) no_members))
 
 -- a conflict with a shrunk set, and for each of its variables the choices that hold without it
@@ -98,7 +98,7 @@ shrunk_value index names set maps counts =
     (member (codes "status") (string (codes "no plan"))
     (member (codes "visited") (number (unsigned counts.visited))
     (member (codes "warnings") (list_of warning_value index.warnings)
-    (member (codes "without") (list_of (freed_value index names) (zip set maps)) no_members)))))))
+    (member (codes "without") (list_of (without_value index names) (zip set maps)) no_members)))))))
 
 -- a conflict whose shrinking stopped after so many exhausted points
 abbrev pub not_shrunk_value : Index → NameTable → List Var → ℕ → Counts → Data

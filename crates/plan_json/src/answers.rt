@@ -3,7 +3,7 @@ ghost use Rattle.std.specs.Prelude.{◌≡◌, IfOk, OnOk};
 ghost use Rattle.serde_json.specs.View.{members_view, view};
 ghost use Rattle.plan_json.specs.Line.{ReadsAs};
 ghost use Rattle.plan_json.specs.Texts.{conflict_json, gave_up_json, not_shrunk_json, plan_json, shrunk_json};
-ghost use Rattle.plan_json.specs.Values.{conflict_value, gave_up_value, not_shrunk_value, plan_value, shrunk_value, with_end};
+ghost use Rattle.plan_json.specs.Values.{conflict_value, gave_up_value, not_shrunk_value, plan_value, shrunk_value, with_common_members};
 
 use crate::line::line_of;
 use crate::parts::{choice_list, freed_list, node_list, skipped_list, variable_list, warning_list};
@@ -175,7 +175,7 @@ fn put_end(
     counts: Counts,
 ) -> Result<(), NoMemory>
     ensures { OnOk result (members_view members.new.entries
-        ≡ with_end head.now index.now counts (members_view members.old.entries)) }
+        ≡ with_common_members head.now index.now counts (members_view members.old.entries)) }
 {
     let skipped = skipped_list(alloc, index.skipped.as_slice())?;
     let warnings = warning_list(alloc, index.warnings.as_slice())?;

@@ -6,7 +6,7 @@ ghost use Rattle.std.specs.Ordering.{nat_cmp};
 ghost use Rattle.serde_json.specs.Data.{put as with_member, string};
 ghost use Rattle.serde_json.specs.View.{members_view, view};
 ghost use Rattle.plan_nodes.specs.Line.{kind_word};
-ghost use Rattle.plan_json.specs.Values.{choice_value, freed_value, ids_value, list_of, node_value, skipped_value, variable_value, warning_value};
+ghost use Rattle.plan_json.specs.Values.{choice_value, without_value, ids_value, list_of, node_value, skipped_value, variable_value, warning_value};
 
 use choice_problem::{Choice, Var};
 use plan_nodes::{NodeKind, PlanNode, package_text};
@@ -66,7 +66,7 @@ pub fn freed_list(
     index: &Index,
     names: &Names,
 ) -> Result<Value, NoMemory>
-    ensures { IfOk result (λ value. view value ≡ list_of (freed_value index.now names.now) (zip set.now maps.now)) }
+    ensures { IfOk result (λ value. view value ≡ list_of (without_value index.now names.now) (zip set.now maps.now)) }
 {
     let mut items = Vec::new(alloc);
     let mut rest = set;
@@ -74,7 +74,7 @@ pub fn freed_list(
         let [var, others @ ..] = rest else {
             return Ok(Value::from(items));
         };
-        let item = freed_value(alloc, *var, kept.as_slice(), index, names)?;
+        let item = without_value(alloc, *var, kept.as_slice(), index, names)?;
         push(&mut items, item)?;
         rest = others;
     }
@@ -119,14 +119,14 @@ fn choice_value(
     Ok(value)
 }
 
-fn freed_value(
+fn without_value(
     alloc: Global,
     var: Var,
     kept: &[Choice],
     index: &Index,
     names: &Names,
 ) -> Result<Value, NoMemory>
-    ensures { IfOk result (λ value. view value ≡ freed_value index.now names.now (var, kept.now)) }
+    ensures { IfOk result (λ value. view value ≡ without_value index.now names.now (var, kept.now)) }
 {
     let keep = choice_list(alloc, kept, index, names)?;
     let shown = names.print_var(alloc, var)?;

@@ -11,7 +11,7 @@ use Rattle.choice_problem.specs.declared.outcome.Counts.{Counts}
 use Rattle.plan_nodes.specs.declared.node.PlanNode.{PlanNode}
 use Rattle.plan_nodes.specs.Line.{node_line}
 use Rattle.plan_print.specs.Cause.{cause_name}
-use Rattle.plan_print.specs.Place.{where_of}
+use Rattle.plan_print.specs.Place.{place_text}
 use Rattle.plan_print.specs.Note.{notes_text}
 use Rattle.plan_print.specs.Choice.{choice_line, keep_line}
 
@@ -38,13 +38,13 @@ conflict_text index names set counts =
     codes "no plan" ++ 10 ∷ notes_text index ++ conflict_line names set ++ counts_line counts
 
 -- the lines of a variable of a shrunk set: the variable, and the choices that hold without it
-abbrev pub freed_lines : Index → NameTable → Var × List Choice → List ℕ
-freed_lines index names freed = codes "without" ++ named_var names freed.0 ++ 10 ∷ flat_map (keep_line index names) freed.1
+abbrev pub without_lines : Index → NameTable → Var × List Choice → List ℕ
+without_lines index names freed = codes "without" ++ named_var names freed.0 ++ 10 ∷ flat_map (keep_line index names) freed.1
 
 -- a conflict with a shrunk set, and for each of its variables the choices that hold without it
 abbrev pub shrunk_text : Index → NameTable → List Var → List (List Choice) → Counts → List ℕ
 shrunk_text index names set maps counts =
-    codes "no plan" ++ 10 ∷ notes_text index ++ conflict_line names set ++ flat_map (freed_lines index names) (zip set maps) ++ counts_line counts
+    codes "no plan" ++ 10 ∷ notes_text index ++ conflict_line names set ++ flat_map (without_lines index names) (zip set maps) ++ counts_line counts
 
 -- the number of exhausted points after which shrinking stopped
 abbrev pub spent_line : ℕ → List ℕ
@@ -66,4 +66,4 @@ detail_text detail = if length detail == 0 then [] else codes " " ++ detail
 -- the line of a refusal
 abbrev pub refusal_text : Refusal → List ℕ
 refusal_text refusal =
-    codes "refused " ++ where_of refusal.path refusal.line ++ codes " " ++ cause_name refusal.cause ++ detail_text refusal.detail ++ 10 ∷ []
+    codes "refused " ++ place_text refusal.path refusal.line ++ codes " " ++ cause_name refusal.cause ++ detail_text refusal.detail ++ 10 ∷ []

@@ -1,13 +1,13 @@
 // A path with a line.
 ghost use Rattle.std.specs.Prelude.{◌≡◌, ◌++◌, OnOk};
-ghost use Rattle.plan_print.specs.Place.{where_of};
+ghost use Rattle.plan_print.specs.Place.{place_text};
 
 use plan_types::{NoMemory, Text};
 use std::alloc::Global;
 
 // Appends a path, and its line unless that is 0.
 pub fn push_where(alloc: Global, text: &mut Text, path: &str, line: u32) -> Result<(), NoMemory>
-    ensures { OnOk result (text.new ≡ text.old ++ where_of path.now line) }
+    ensures { OnOk result (text.new ≡ text.old ++ place_text path.now line) }
 {
     if line == 0 {
         return text.push_str(path);

@@ -2,7 +2,7 @@
 ghost use Rattle.std.specs.Prelude.{◌≡◌, ◌++◌, IfOk, OnOk, flat_map, zip};
 ghost use Rattle.plan_nodes.specs.Line.{node_line};
 ghost use Rattle.plan_print.specs.Choice.{choice_line, keep_line};
-ghost use Rattle.plan_print.specs.Texts.{named_var, conflict_line, counts_line, plan_text, conflict_text, freed_lines, gave_up_text, detail_text, not_shrunk_text, refusal_text, shrunk_text, spent_line};
+ghost use Rattle.plan_print.specs.Texts.{named_var, conflict_line, counts_line, plan_text, conflict_text, without_lines, gave_up_text, detail_text, not_shrunk_text, refusal_text, shrunk_text, spent_line};
 
 use crate::cause::cause_name;
 use crate::choice::push_choice;
@@ -64,7 +64,7 @@ pub fn text_of_shrunk(
     let mut text = Text::from_str(alloc, "no plan\n")?;
     push_notes(alloc, &mut text, index)?;
     push_conflict(alloc, &mut text, set.vars(), names)?;
-    push_freed(alloc, &mut text, set.vars(), maps.as_slice(), index, names)?;
+    push_without(alloc, &mut text, set.vars(), maps.as_slice(), index, names)?;
     push_counts(alloc, &mut text, counts)?;
     Ok(text)
 }
@@ -127,7 +127,7 @@ fn push_trail(
 }
 
 // Appends the choices that hold without each variable of the set.
-fn push_freed(
+fn push_without(
     alloc: Global,
     text: &mut Text,
     set: &[Var],
@@ -135,7 +135,7 @@ fn push_freed(
     index: &Index,
     names: &Names,
 ) -> Result<(), NoMemory>
-    ensures { OnOk result (text.new ≡ text.old ++ flat_map (freed_lines index.now names.now) (zip set.now maps.now)) }
+    ensures { OnOk result (text.new ≡ text.old ++ flat_map (without_lines index.now names.now) (zip set.now maps.now)) }
 {
     let mut rest = set;
     for kept in maps {
@@ -156,7 +156,7 @@ fn push_freed_var(
     index: &Index,
     names: &Names,
 ) -> Result<(), NoMemory>
-    ensures { OnOk result (text.new ≡ text.old ++ freed_lines index.now names.now (var, kept.now)) }
+    ensures { OnOk result (text.new ≡ text.old ++ without_lines index.now names.now (var, kept.now)) }
 {
     text.push_str("without")?;
     push_var(alloc, text, var, names)?;

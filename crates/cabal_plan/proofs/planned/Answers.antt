@@ -1,13 +1,13 @@
 -- `run` gets the given words
 use Rattle.std.proofs.Common.{subst}
 use Rattle.cabal_plan.specs.Run.{IsRunOver}
-use Rattle.cabal_plan.specs.Taken.{taken}
+use Rattle.cabal_plan.specs.Taken.{sink_state}
 use Rattle.cabal_plan.proofs.planned.Goals as goal
 
 pub returns : goal.returns
 returns g c =
     let run = c.run.ensures in
-    subst (λ words. IsRunOver g.F.Folder.tells g.F.Folder.faults words c.args.folder.now c.run.new.folder (taken g.S.Sink.bytes g.S.Sink.faults c.args.out.now) (taken g.S.Sink.bytes g.S.Sink.faults c.run.new.out) c.run.result) c.as_slice.ensures
+    subst (λ words. IsRunOver g.F.Folder.tells g.F.Folder.faults words c.args.folder.now c.run.new.folder (sink_state g.S.Sink.bytes g.S.Sink.faults c.args.out.now) (sink_state g.S.Sink.bytes g.S.Sink.faults c.run.new.out) c.run.result) c.as_slice.ensures
     (record {
       told = run.told;
       one_text = run.one_text;

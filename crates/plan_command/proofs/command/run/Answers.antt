@@ -43,5 +43,5 @@ returns-in-Err-Usage-clause-in_order g c =
 pub returns-in-Ok-clause-generated : goal.returns-in-Ok-clause-generated
 returns-in-Ok-clause-generated g c = λ number limit asked. c.perform.ensures.generated number limit (cc (sym c.in-Ok.ensures.command ∙ asked))
 
-pub returns-in-Ok-clause-unasked : goal.returns-in-Ok-clause-unasked
-returns-in-Ok-clause-unasked g c = λ number limit asked. c.perform.ensures.unasked number limit (cc (sym c.in-Ok.ensures.command ∙ asked))
+pub returns-in-Ok-clause-folder_untouched : goal.returns-in-Ok-clause-folder_untouched
+returns-in-Ok-clause-folder_untouched g c = λ number limit asked. c.perform.ensures.folder_untouched number limit (cc (sym c.in-Ok.ensures.command ∙ asked))

@@ -8,7 +8,7 @@ use Rattle.plan_task.specs.Task.{IsTask}
 use Rattle.plan_task.specs.declared.task.Task.{Task}
 use Rattle.plan_search.specs.declared.search.Picking.TheVariants.{Least}
 use Rattle.plan_command.specs.declared.form.Form.TheVariants.{Freeze}
-use Rattle.plan_command.specs.Form.{frozen_form, said_before}
+use Rattle.plan_command.specs.Form.{frozen_form, old_freeze_text}
 use Rattle.plan_command.specs.Meaning.{MeansTask}
 use Rattle.plan_command.specs.Run.{IsOutputOfTask, of_refusal, of_task}
 use Rattle.plan_command.proofs.Outputs.{frozen-output, planned-means, refused-means, unfrozen-output}
@@ -18,7 +18,7 @@ pub returns-in_ok-planned-in-Ok-clause-meaning : goal.returns-in_ok-planned-in-O
 returns-in_ok-planned-in-Ok-clause-meaning g c = λ files t.
     let task = c.in-Ok.task in
     let output = c.in_ok-planned-in-Ok.field-0 in
-    let before = c.in_ok-before-in-Ok.ensures ∙ ap said_before (some_at _ _ files t c.in-Ok.ensures.freeze) in
+    let before = c.in_ok-before-in-Ok.ensures ∙ ap old_freeze_text (some_at _ _ files t c.in-Ok.ensures.freeze) in
     planned-means c.args.options files (frozen_form files) Least false task (some_at _ _ files t c.in-Ok.ensures.told) c.in-Ok.ensures.ready output
     (subst (λ (b : Bytes). MeansTask Least false (Freeze b) task output) before c.in_ok-planned-in-Ok.ensures.headline)
 
@@ -26,7 +26,7 @@ pub returns-in_ok-planned-in-Ok-clause-told : goal.returns-in_ok-planned-in-Ok-c
 returns-in_ok-planned-in-Ok-clause-told g c = λ files t.
     let task = c.in-Ok.task in
     let output = c.in_ok-planned-in-Ok.field-0 in
-    let before = c.in_ok-before-in-Ok.ensures ∙ ap said_before (some_at _ _ files t c.in-Ok.ensures.freeze) in
+    let before = c.in_ok-before-in-Ok.ensures ∙ ap old_freeze_text (some_at _ _ files t c.in-Ok.ensures.freeze) in
     frozen-output c.args.options files task output (some_at _ _ files t c.in-Ok.ensures.told)
     (subst (λ (b : Bytes). IsOutputOfTask Least false (Freeze b) task output) before c.in_ok-planned-in-Ok.ensures.output)
 

@@ -5,7 +5,7 @@ use Rattle.plan_generate.specs.Generated.{generated}
 use Rattle.plan_command.specs.declared.form.Form.TheVariants.{Summary}
 use Rattle.plan_command.specs.Asked.{picking_of}
 use Rattle.plan_command.specs.Meaning.{Means}
-use Rattle.plan_command.specs.Run.{IsOutputOfSome}
+use Rattle.plan_command.specs.Run.{IsPossibleOutput}
 use Rattle.plan_command.proofs.generate.output_of_generate.Goals as goal
 
 pub returns-in-Ok-clause-meaning : goal.returns-in-Ok-clause-meaning
@@ -17,4 +17,4 @@ returns-in-Ok-clause-meaning c =
 
 pub returns-in-Ok-clause-form : goal.returns-in-Ok-clause-form
 returns-in-Ok-clause-form c =
-    subst (λ (o : Options). IsOutputOfSome (picking_of o) o.minimize (λ own. own ≡ Summary c.args.number) c.in-Ok.output) c.in_ok-options.ensures c.in-Ok.ensures.form
+    subst (λ (o : Options). IsPossibleOutput (picking_of o) o.minimize (λ own. own ≡ Summary c.args.number) c.in-Ok.output) c.in_ok-options.ensures c.in-Ok.ensures.form

@@ -1,6 +1,6 @@
 use Rattle.std.proofs.Common.{length, ap, arith}
 use Rattle.elaborate.proofs.Telling.{told_step}
-use Rattle.elaborate.proofs.told.told_in.Goals as goal
+use Rattle.elaborate.proofs.told.lined_nodes.Goals as goal
 
 pub loop-line-preserved : goal.loop-line-preserved
 loop-line-preserved c =
