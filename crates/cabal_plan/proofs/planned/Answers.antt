@@ -15,5 +15,5 @@ returns g c =
       usage_alone = run.usage;
       no_reading = λ none other. run.no_reading none;
       reads = run.folder;
-      writes = record { later = run.sink; rose = run.write_fault; still = run.sink_still };
+      writes = record { later = run.sink; rose = run.write_fault; still = run.sink_unchanged };
     })
