@@ -1,9 +1,10 @@
 pub mod Appending
 pub mod Leaving
 pub mod Listings
+pub mod Offering
 pub mod Orders
 pub mod Pairs
 pub mod Places
 pub mod Prefixes
+pub mod Reading
 pub mod Trees
-pub mod Whole

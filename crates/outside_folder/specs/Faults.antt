@@ -1,10 +1,15 @@
 -- Counts of faults.
-use Rattle.std.specs.Prelude.{ℕ, ◌≤◌, ◌+◌, ◌-◌, ◌^◌, min, Bool, ◌==◌, ◌&&◌, nat_lt, List, [], ◌∷◌}
+use Rattle.std.specs.Prelude.{◌≡◌, ℕ, ◌+◌, ◌-◌, ◌^◌, min, Bool, ◌==◌, ◌&&◌, nat_lt, List, [], ◌∷◌}
 use Rattle.std.specs.List.{list_any}
 
--- the count rose: there is a new fault, or the count stands at its end
+-- the count rose by one fault, or stands at its end
 abbrev pub Rose : ℕ → ℕ → Type 0
-Rose before now = min (before + 1) (2 ^ 64 - 1) ≤ now
+Rose before now = now ≡ min (before + 1) (2 ^ 64 - 1)
+
+-- the count rose by one where this failed, and is as it was otherwise
+pub record Counts (before now : ℕ) (failed : Type 0) : Type 0 where
+  pub rose : failed → Rose before now
+  pub still : (failed → ⊥) → now ≡ before
 
 -- a count of calls after one more, which stands still at its end
 abbrev pub next_count : ℕ → ℕ

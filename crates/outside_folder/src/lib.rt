@@ -19,4 +19,4 @@ pub use mem_sink::MemSink;
 pub use real_folder::RealFolder;
 pub use real_sink::{RealSink, WriterSink};
 pub use sink::{Sink, SinkFault, write_all};
-pub use system_calls::SystemCalls;
+pub use system_calls::{SystemCalls, WriterCalls};

@@ -1,17 +1,14 @@
 // What a real folder holds isn't told. What is made of the system's answers is proved over any system, any entries and
 // any reader.
-ghost use Rattle.std.specs.Prelude.{◌≡◌, ◌≢◌, ◌≤◌, ◌<◌, ◌+◌, ◌^◌, ◌-◌, ◌↔◌, [], None, length, Ok, Err, Result, Option, List, ℕ, IfOk, IfErr, IfSome, IsSome, OnOk, IsErrOf, IsTrue, true, false};
+ghost use Rattle.std.specs.Prelude.{◌≡◌, ◌≢◌, ◌≤◌, ◌<◌, ◌+◌, ◌^◌, ◌-◌, ◌++◌, ◌↔◌, [], None, length, Ok, Err, Result, Option, List, ℕ, IfOk, IfErr, IfSome, IsSome, OnOk, OnErr, IsErrOf, IsErrAnd, IsTrue, true, false};
 ghost use Rattle.std.specs.Iterator.{IsFinite};
-ghost use Rattle.std.specs.Fs.{dir_entry_path};
 ghost use Rattle.std.specs.IoError.{error_kind};
 ghost use Rattle.std.specs.declared.alloc.Global.{Global};
-ghost use Rattle.std.specs.declared.fs.Metadata.{Metadata};
 ghost use Rattle.std.specs.declared.fs.ReadDir.{ReadDir};
-ghost use Rattle.std.specs.declared.io.Error.{Error};
 ghost use Rattle.outside_folder.specs.Files.{as_names};
 ghost use Rattle.outside_folder.specs.Folder.{IsInOrder, IsWithinLimit};
-ghost use Rattle.outside_folder.specs.Faults.{Rose};
-ghost use Rattle.outside_folder.specs.RealFolder.{name_limit, has_zero, system_path, AreAllBytes, GivesFault, GivesNames, HasNoName, IsFaultOf, IsMissing, IsNameOf, IsReadAs, IsListingAt, IsListingOf, IsReadAt, IsReadOf, IsUnlisted, IsUnread, SaysFolder, SaysNothing, by_text, with_name};
+ghost use Rattle.outside_folder.specs.Faults.{Counts, Rose};
+ghost use Rattle.outside_folder.specs.RealFolder.{name_limit, has_long_name, has_zero, system_path, GivesFault, GivesNames, HasNoName, IsFaultOf, IsListingAt, IsListingOf, IsMissing, IsNameOf, IsNothing, IsReadAs, IsReadAt, IsReadOf, IsUnlisted, IsUnread, SaysFolder, SaysNothing, by_text, with_name};
 
 use crate::folder::as_names;
 use crate::{FILE_LIMIT, Folder, FolderFault, Name, SystemCalls};
@@ -19,10 +16,16 @@ use plan_types::{List, NoMemory, Text};
 use std::alloc::Global;
 use std::collections::BTreeMap;
 use std::fs::{DirEntry, Metadata, ReadDir};
-use std::io::{self, ErrorKind, Read};
+use std::io::{self, ErrorKind};
 use std::rt::Files;
 
 const NAME_LIMIT: usize = 1_048_576;
+
+// How many bytes a name of a file has at most.
+const LONGEST_NAME: usize = 255;
+
+// How many bytes a read asks for.
+const PIECE: usize = 65_536;
 
 /// A folder of the system, with a count of its faults that stays at 2^64 - 1.
 #[derive(Drop)]
@@ -59,7 +62,8 @@ impl<R: SystemCalls> Folder for RealFolder<'_, R> {
         ensures never_too_large { IsErrOf result FolderFault.TooLarge → ⊥ }
 
         // It is what the system says of the directory at this path below the root.
-        ensures asked { IsListingAt (R.lists self.old.rt.now) (R.finds self.old.rt.now) ⟦<ReadDir<R, Global> as Iterator>⟧.next_gives self.old.root dir.now result }
+        ensures asked { IsListingAt (R.lists self.old.rt.now) (R.finds self.old.rt.now)
+            ⟦<ReadDir<R, Global> as Iterator>⟧.next_gives self.old.root dir.now result }
 
         // No other call than one that answers `Failed` changes the count.
         ensures failed { IsErrOf result FolderFault.Failed → Rose self.old.faults self.new.faults }
@@ -68,10 +72,9 @@ impl<R: SystemCalls> Folder for RealFolder<'_, R> {
         ensures bounded { self.new.faults ≤ 2 ^ 64 - 1 }
         ensures capped { 2 ^ 64 - 1 ≤ 2 ^ 64 - 1 }
     {
-        let listed = list_at(self.rt, alloc, self.root.as_str(), dir);
-        if let Err(FolderFault::Failed) = listed {
-            self.faults = self.faults.saturating_add(1);
-        }
+        let mut faults = self.faults;
+        let listed = list_at(self.rt, alloc, &mut faults, self.root.as_str(), dir);
+        self.faults = faults;
         listed
     }
 
@@ -79,7 +82,7 @@ impl<R: SystemCalls> Folder for RealFolder<'_, R> {
         ensures within { IfOk result IsWithinLimit }
 
         // It is what the system says of the file at this path below the root.
-        ensures asked { IsReadAt (R.opens self.old.rt.now) R.File.remaining self.old.root path.now result }
+        ensures asked { IsReadAt (R.opens self.old.rt.now) (R.gives self.old.rt.now) self.old.root path.now result }
 
         ensures failed { IsErrOf result FolderFault.Failed → Rose self.old.faults self.new.faults }
         ensures still { (IsErrOf result FolderFault.Failed → ⊥) → self.new.faults ≡ self.old.faults }
@@ -87,35 +90,61 @@ impl<R: SystemCalls> Folder for RealFolder<'_, R> {
         ensures bounded { self.new.faults ≤ 2 ^ 64 - 1 }
         ensures capped { 2 ^ 64 - 1 ≤ 2 ^ 64 - 1 }
     {
-        let read = read_at(self.rt, alloc, self.root.as_str(), path);
-        if let Err(FolderFault::Failed) = read {
-            self.faults = self.faults.saturating_add(1);
-        }
+        let mut faults = self.faults;
+        let read = read_at(self.rt, alloc, &mut faults, self.root.as_str(), path);
+        self.faults = faults;
         read
     }
 }
 
-fn fault_of(error: &io::Error) -> FolderFault
-    ensures { IsFaultOf error.now result }
+// The fault that an error of the system is. A failure is counted where it is met, and nowhere else.
+fn fault_of(faults: &mut u64, error: &io::Error) -> FolderFault
+    ensures fault { IsFaultOf error.now result }
+    ensures counted { Counts faults.old faults.new (result ≡ FolderFault.Failed) }
 {
     if error.kind() == ErrorKind::OutOfMemory {
         FolderFault::NoMemory
     } else {
-        FolderFault::Failed
+        failed(faults)
     }
 }
 
-// A name that no file can have, and a link that leads back to itself, are those of nothing.
-fn is_missing(error: &io::Error) -> bool
-    ensures { IsTrue result ↔ IsMissing error.now }
+fn failed(faults: &mut u64) -> FolderFault
+    ensures fault { result ≡ FolderFault.Failed }
+    ensures rose { Rose faults.old faults.new }
+{
+    *faults = faults.saturating_add(1);
+    FolderFault::Failed
+}
+
+// A link that leads back to itself leads to nothing.
+fn is_nothing(error: &io::Error) -> bool
+    ensures { IsTrue result ↔ IsNothing error.now }
 {
     matches!(
         error.kind(),
-        ErrorKind::NotFound
-            | ErrorKind::NotADirectory
-            | ErrorKind::InvalidFilename
-            | ErrorKind::FilesystemLoop
+        ErrorKind::NotFound | ErrorKind::NotADirectory | ErrorKind::FilesystemLoop
     )
+}
+
+// A name that no file can have is that of nothing. A path may be too long without one.
+fn is_missing(path: &str, error: &io::Error) -> bool
+    ensures { IsTrue result ↔ IsMissing path.now error.now }
+{
+    is_nothing(error) || is_too_long(path, error)
+}
+
+fn is_too_long(path: &str, error: &io::Error) -> bool
+    ensures { IsTrue result ↔ ((error_kind error.now ≡ ErrorKind.InvalidFilename) × IsTrue (has_long_name path.now)) }
+{
+    error.kind() == ErrorKind::InvalidFilename && has_long_name(path.as_bytes())
+}
+
+fn has_long_name(path: &[u8]) -> bool
+    ensures { result ≡ has_long_name path.now }
+{
+    path.split(|byte| *byte == b'/')
+        .any(|name| name.len() > LONGEST_NAME)
 }
 
 fn system_path(alloc: Global, root: &str, path: &str) -> Result<Text, NoMemory>
@@ -138,25 +167,29 @@ fn has_zero(path: &str) -> bool
 fn list_at<S: SystemCalls>(
     system: &S,
     alloc: Global,
+    faults: &mut u64,
     root: &str,
     dir: &str,
 ) -> Result<Option<List<Name>>, FolderFault>
     ensures order { IfOk result (λ names. IfSome names IsInOrder) }
     ensures root { dir.now ≡ [] → IfOk result IsSome }
     ensures never_too_large { IsErrOf result FolderFault.TooLarge → ⊥ }
-    ensures asked { IsListingAt (S.lists system.now) (S.finds system.now) ⟦<ReadDir<S, Global> as Iterator>⟧.next_gives root.now dir.now result }
+    ensures asked { IsListingAt (S.lists system.now) (S.finds system.now)
+        ⟦<ReadDir<S, Global> as Iterator>⟧.next_gives root.now dir.now result }
+    ensures counted { Counts faults.old faults.new (IsErrOf result FolderFault.Failed) }
 {
     if has_zero(dir) {
         return Ok(None);
     }
     let path = system_path(alloc, root, dir)?;
-    listing_of(system, alloc, dir, system.entries_at(path.as_str()))
+    listing_of(system, alloc, faults, dir, system.entries_at(path.as_str()))
 }
 
 // What is told of a directory that was opened, or couldn't be.
 fn listing_of<S: SystemCalls, I: Iterator<Item = io::Result<DirEntry<S, Global>>> + Drop>(
     system: &S,
     alloc: Global,
+    faults: &mut u64,
     dir: &str,
     opened: io::Result<I>,
 ) -> Result<Option<List<Name>>, FolderFault>
@@ -166,26 +199,32 @@ fn listing_of<S: SystemCalls, I: Iterator<Item = io::Result<DirEntry<S, Global>>
     ensures order { IfOk result (λ names. IfSome names IsInOrder) }
     ensures root { dir.now ≡ [] → IfOk result IsSome }
     ensures never_too_large { IsErrOf result FolderFault.TooLarge → ⊥ }
+    ensures counted { Counts faults.old faults.new (IsErrOf result FolderFault.Failed) }
 {
     match opened {
         Ok(entries) => {
-            let names = listed(system, alloc, entries)?;
+            let names = listed(system, alloc, faults, entries)?;
             Ok(Some(names))
         }
-        Err(error) => unlisted(dir, &error),
+        Err(error) => unlisted(faults, dir, &error),
     }
 }
 
 // The root is never missing.
-fn unlisted(dir: &str, error: &io::Error) -> Result<Option<List<Name>>, FolderFault>
+fn unlisted(
+    faults: &mut u64,
+    dir: &str,
+    error: &io::Error,
+) -> Result<Option<List<Name>>, FolderFault>
     ensures told { IsUnlisted dir.now error.now result }
     ensures root { dir.now ≡ [] → IfOk result IsSome }
     ensures never_too_large { IsErrOf result FolderFault.TooLarge → ⊥ }
+    ensures counted { Counts faults.old faults.new (IsErrOf result FolderFault.Failed) }
 {
-    if is_missing(error) && !dir.is_empty() {
+    if is_missing(dir, error) && !dir.is_empty() {
         Ok(None)
     } else {
-        Err(fault_of(error))
+        Err(fault_of(faults, error))
     }
 }
 
@@ -193,50 +232,61 @@ fn unlisted(dir: &str, error: &io::Error) -> Result<Option<List<Name>>, FolderFa
 fn listed<S: SystemCalls, I: Iterator<Item = io::Result<DirEntry<S, Global>>> + Drop>(
     system: &S,
     alloc: Global,
+    faults: &mut u64,
     entries: I,
 ) -> Result<List<Name>, FolderFault>
     requires can { I.can_next entries }
     requires finite { IsFinite (I.remaining entries) }
-    ensures whole { IfOk result (λ listed. GivesNames (S.finds system.now) I.next_gives entries (λ names. listed ≡ as_names (by_text names))) }
+    ensures whole { IfOk result (λ listed. GivesNames (S.finds system.now) I.next_gives entries
+        (λ names. listed ≡ as_names (by_text names))) }
     ensures failed { IsErrOf result FolderFault.Failed → GivesFault (S.finds system.now) I.next_gives entries }
     ensures order { IfOk result IsInOrder }
     ensures never_too_large { IsErrOf result FolderFault.TooLarge → ⊥ }
+    ensures counted { Counts faults.old faults.new (IsErrOf result FolderFault.Failed) }
 {
-    let names = names_of(system, alloc, entries)?;
+    let names = names_of(system, alloc, faults, entries)?;
     Ok(as_names(alloc, names)?)
 }
 
 fn names_of<S: SystemCalls, I: Iterator<Item = io::Result<DirEntry<S, Global>>> + Drop>(
     system: &S,
     alloc: Global,
+    faults: &mut u64,
     entries: I,
 ) -> Result<BTreeMap<Text, bool>, FolderFault>
     requires can { I.can_next entries }
     requires finite { IsFinite (I.remaining entries) }
-    ensures whole { IfOk result (λ found. GivesNames (S.finds system.now) I.next_gives entries (λ names. found.entries ≡ by_text names)) }
+    ensures whole { IfOk result (λ found. GivesNames (S.finds system.now) I.next_gives entries
+        (λ names. found.entries ≡ by_text names)) }
     ensures failed { IsErrOf result FolderFault.Failed → GivesFault (S.finds system.now) I.next_gives entries }
     ensures never_too_large { IsErrOf result FolderFault.TooLarge → ⊥ }
+    ensures counted { Counts faults.old faults.new (IsErrOf result FolderFault.Failed) }
 {
     let mut names = BTreeMap::new(alloc);
     for entry in entries {
-        match name_of(system, alloc, entry) {
-            Ok(name) => add_name(&mut names, name)?,
-            Err(error) => return Err(fault_of(&error)),
+        match name_of(system, alloc, faults, entry) {
+            Ok(name) => add_name(faults, &mut names, name)?,
+            Err(fault) => return Err(fault),
         }
     }
     Ok(names)
 }
 
-// Takes one name more; where there are as many as can be listed, that is a fault.
-fn add_name(names: &mut BTreeMap<Text, bool>, name: Name) -> Result<(), FolderFault>
+// Takes one name more; where there are as many as can be listed, that is a failure.
+fn add_name(
+    faults: &mut u64,
+    names: &mut BTreeMap<Text, bool>,
+    name: Name,
+) -> Result<(), FolderFault>
     ensures ok { OnOk result (names.new.entries ≡ with_name names.old.entries name) }
     ensures few { OnOk result (length names.old.entries < name_limit) }
     ensures one_more { OnOk result (length names.new.entries ≤ length names.old.entries + 1) }
     ensures failed { IsErrOf result FolderFault.Failed → name_limit ≤ length names.old.entries }
     ensures never_too_large { IsErrOf result FolderFault.TooLarge → ⊥ }
+    ensures counted { Counts faults.old faults.new (IsErrOf result FolderFault.Failed) }
 {
     if names.len() >= NAME_LIMIT {
-        return Err(FolderFault::Failed);
+        return Err(failed(faults));
     }
     let Name { text, folder } = name;
     names
@@ -245,97 +295,127 @@ fn add_name(names: &mut BTreeMap<Text, bool>, name: Name) -> Result<(), FolderFa
     Ok(())
 }
 
-// An error of the system is handed on as it is.
 fn name_of<S: SystemCalls>(
     system: &S,
     alloc: Global,
+    faults: &mut u64,
     entry: io::Result<DirEntry<S, Global>>,
-) -> io::Result<Name>
+) -> Result<Name, FolderFault>
     ensures name { IfOk result (IsNameOf (S.finds system.now) entry) }
-    ensures no_name { IfErr result (λ error. error_kind error ≢ ErrorKind.OutOfMemory → HasNoName (S.finds system.now) entry) }
-    ensures err { IfErr entry (λ error. result ≡ Err error) }
+    ensures no_name { IsErrOf result FolderFault.Failed → HasNoName (S.finds system.now) entry }
+    ensures err { IfErr entry (λ error. IsErrAnd result (IsFaultOf error)) }
+    ensures never_too_large { IsErrOf result FolderFault.TooLarge → ⊥ }
+    ensures counted { Counts faults.old faults.new (IsErrOf result FolderFault.Failed) }
 {
-    let entry = entry?;
-    let text = Text::from_str(alloc, entry.file_name()).map_err(|_| io::Error::from(
-        ErrorKind::OutOfMemory,
-    ))?;
-    let folder = is_folder(system.metadata_at(entry.path()))?;
-    Ok(Name { text, folder })
+    match entry {
+        Ok(entry) => {
+            let text = Text::from_str(alloc, entry.file_name())?;
+            let folder = is_folder(faults, system.metadata_at(entry.path()))?;
+            Ok(Name { text, folder })
+        }
+        Err(error) => Err(fault_of(faults, &error)),
+    }
 }
 
-fn is_folder(found: io::Result<Metadata>) -> io::Result<bool>
+fn is_folder(faults: &mut u64, found: io::Result<Metadata>) -> Result<bool, FolderFault>
     ensures said { IfOk result (SaysFolder found) }
-    ensures unsaid { IfErr result (λ error. SaysNothing found × (found ≡ Err error)) }
+    ensures unsaid { IfErr result (SaysNothing found) }
+    ensures never_too_large { IsErrOf result FolderFault.TooLarge → ⊥ }
+    ensures counted { Counts faults.old faults.new (IsErrOf result FolderFault.Failed) }
 {
     match found {
         Ok(found) => Ok(found.is_dir()),
-        Err(error) if is_missing(&error) => Ok(false),
-        Err(error) => Err(error),
+        Err(error) if is_nothing(&error) => Ok(false),
+        Err(error) => Err(fault_of(faults, &error)),
     }
 }
 
 fn read_at<S: SystemCalls>(
     system: &S,
     alloc: Global,
+    faults: &mut u64,
     root: &str,
     path: &str,
 ) -> Result<Option<List<u8>>, FolderFault>
     ensures within { IfOk result IsWithinLimit }
-    ensures asked { IsReadAt (S.opens system.now) S.File.remaining root.now path.now result }
+    ensures asked { IsReadAt (S.opens system.now) (S.gives system.now) root.now path.now result }
+    ensures counted { Counts faults.old faults.new (IsErrOf result FolderFault.Failed) }
 {
     if has_zero(path) {
         return Ok(None);
     }
-    let path = system_path(alloc, root, path)?;
-    read_of(alloc, system.open_at(path.as_str()))
+    let whole = system_path(alloc, root, path)?;
+    read_of(system, alloc, faults, path, system.open_at(whole.as_str()))
 }
 
 // What is told of a file that was opened, or couldn't be.
-fn read_of<F: Read + Drop>(
+fn read_of<S: SystemCalls>(
+    system: &S,
     alloc: Global,
-    opened: io::Result<F>,
+    faults: &mut u64,
+    path: &str,
+    opened: io::Result<S::File>,
 ) -> Result<Option<List<u8>>, FolderFault>
-    ensures told { IsReadOf F.remaining opened result }
+    ensures told { IsReadOf (S.gives system.now) path.now opened result }
     ensures within { IfOk result IsWithinLimit }
+    ensures counted { Counts faults.old faults.new (IsErrOf result FolderFault.Failed) }
 {
     match opened {
-        Ok(file) => read_as(bytes_of(alloc, file)),
-        Err(error) => unread(&error),
+        Ok(file) => read_all(system, alloc, faults, path, file),
+        Err(error) => unread(faults, path, &error),
     }
 }
 
-fn read_as(read: io::Result<Option<List<u8>>>) -> Result<Option<List<u8>>, FolderFault>
-    ensures told { IsReadAs read result }
-    ensures within { IfOk read IsWithinLimit → IfOk result IsWithinLimit }
+// Reads a file until nothing more comes, or it is too large.
+fn read_all<S: SystemCalls>(
+    system: &S,
+    alloc: Global,
+    faults: &mut u64,
+    path: &str,
+    file: S::File,
+) -> Result<Option<List<u8>>, FolderFault>
+    ensures told { IsReadAs (S.gives system.now) path.now file result }
+    ensures within { IfOk result IsWithinLimit }
+    ensures counted { Counts faults.old faults.new (IsErrOf result FolderFault.Failed) }
 {
-    match read {
-        Ok(Some(bytes)) => Ok(Some(bytes)),
-        Ok(None) => Err(FolderFault::TooLarge),
-        Err(error) => unread(&error),
+    let mut file = file;
+    let mut bytes = Vec::new(alloc);
+    let mut room = empty_buffer(alloc)?;
+    let buffer = room.as_mut_slice();
+    while bytes.len() <= FILE_LIMIT {
+        match system.read_some(&mut file, buffer) {
+            Ok(0) => return Ok(Some(List::from_vec(bytes))),
+            Ok(count) => add_piece(&mut bytes, &buffer[..count])?,
+            Err(error) => return unread(faults, path, &error),
+        }
     }
+    Err(FolderFault::TooLarge)
+}
+
+fn empty_buffer(alloc: Global) -> Result<Vec<u8>, NoMemory> {
+    let mut buffer = Vec::new(alloc);
+    buffer.resize(PIECE, 0)?;
+    Ok(buffer)
+}
+
+fn add_piece(bytes: &mut Vec<u8>, piece: &[u8]) -> Result<(), NoMemory>
+    ensures { OnOk result (bytes.new.items ≡ bytes.old.items ++ piece.now) }
+{
+    bytes.extend_from_slice(piece)?;
+    Ok(())
 }
 
 // A directory is no file.
-fn unread(error: &io::Error) -> Result<Option<List<u8>>, FolderFault>
-    ensures told { IsUnread error.now result }
+fn unread(faults: &mut u64, path: &str, error: &io::Error) -> Result<Option<List<u8>>, FolderFault>
+    ensures told { IsUnread path.now error.now result }
     ensures within { IfOk result IsWithinLimit }
+    ensures never_read { IfOk result (λ bytes. bytes ≡ None) }
+    ensures never_too_large { IsErrOf result FolderFault.TooLarge → ⊥ }
+    ensures counted { Counts faults.old faults.new (IsErrOf result FolderFault.Failed) }
 {
-    if is_missing(error) || error.kind() == ErrorKind::IsADirectory {
+    if is_missing(path, error) || error.kind() == ErrorKind::IsADirectory {
         Ok(None)
     } else {
-        Err(fault_of(error))
+        Err(fault_of(faults, error))
     }
-}
-
-// All bytes that a reader gives; `None` where they are too many. One byte more than the limit is asked for.
-fn bytes_of<R: Read + Drop>(alloc: Global, reader: R) -> io::Result<Option<List<u8>>>
-    ensures whole { AreAllBytes (R.remaining reader) result }
-    ensures within { IfOk result IsWithinLimit }
-{
-    let mut bytes = Vec::new(alloc);
-    reader.take(FILE_LIMIT as u64 + 1).read_to_end(&mut bytes)?;
-    if bytes.len() > FILE_LIMIT {
-        return Ok(None);
-    }
-    Ok(Some(List::from_vec(bytes)))
 }

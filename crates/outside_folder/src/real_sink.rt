@@ -1,11 +1,11 @@
 // What standard output received isn't told. What is made of a writer's answers is proved over any writer.
 ghost use Rattle.std.specs.Prelude.{◌≡◌, ◌≤◌, ◌<◌, ◌^◌, ◌-◌, take, IfOk, OnOk, OnErr};
 ghost use Rattle.std.specs.Io.KnownBytes as known;
-ghost use Rattle.outside_folder.specs.Sink.{Appends, IsCount, untold};
+ghost use Rattle.outside_folder.specs.Sink.{Appends, IsCount, Takes, untold};
 ghost use Rattle.outside_folder.specs.Faults.{Rose};
 
-use crate::{Sink, SinkFault};
-use std::io::{self, Printer, Write};
+use crate::{Sink, SinkFault, WriterCalls};
+use std::io::{self, Printer};
 
 /// A writer, with a count of its faults that stays at 2^64 - 1.
 #[derive(Drop)]
@@ -36,18 +36,24 @@ impl<W> WriterSink<W> {
     }
 }
 
-impl<W: Write> Sink for WriterSink<W> {
+impl<W: WriterCalls> Sink for WriterSink<W> {
     ghost bytes = { λ _. untold };
 
     ghost faults = { λ sink. sink.faults };
+
+    ghost takes = { λ old piece result new. Takes W.writes old.writer piece result new.writer };
 
     fn write(&mut self, piece: &[u8]) -> Result<usize, SinkFault>
         ensures count { IfOk result (IsCount piece.now) }
         ensures ok { IfOk result (λ n. Appends untold untold (take n piece.now)) }
         ensures err { OnErr result (untold ≡ untold) }
 
+        // The writer is asked once. It fails where it gives an error, or takes nothing of a piece.
+        ensures told { Takes W.writes self.old.writer piece.now result self.new.writer }
+
         // The writer holds what was taken and no more, where it tells what it holds.
-        ensures taken { IfOk result (λ n. known.Appends (W.contents self.old.writer) (W.contents self.new.writer) (take n piece.now)) }
+        ensures taken { IfOk result
+            (λ n. known.Appends (W.contents self.old.writer) (W.contents self.new.writer) (take n piece.now)) }
         ensures kept { OnErr result (known.Keeps (W.contents self.old.writer) (W.contents self.new.writer)) }
 
         // No other write than one that answers `Failed` changes the count.
@@ -56,7 +62,7 @@ impl<W: Write> Sink for WriterSink<W> {
         ensures later { self.old.faults ≤ self.new.faults }
         ensures bounded { self.new.faults ≤ 2 ^ 64 - 1 }
     {
-        let taken = write_some(&mut self.writer, piece);
+        let taken = taken_by(&mut self.writer, piece);
         if taken.is_err() {
             self.faults = self.faults.saturating_add(1);
         }
@@ -65,12 +71,13 @@ impl<W: Write> Sink for WriterSink<W> {
 }
 
 // Writes some bytes from the front of a piece, and says how many. A writer that takes nothing of one has failed.
-fn write_some<W: Write>(writer: &mut W, piece: &[u8]) -> Result<usize, SinkFault>
+fn taken_by<W: WriterCalls>(writer: &mut W, piece: &[u8]) -> Result<usize, SinkFault>
     ensures count { IfOk result (IsCount piece.now) }
+    ensures told { Takes W.writes writer.old piece.now result writer.new }
     ensures ok { IfOk result (λ n. known.Appends (W.contents writer.old) (W.contents writer.new) (take n piece.now)) }
     ensures err { OnErr result (known.Keeps (W.contents writer.old) (W.contents writer.new)) }
 {
-    match writer.write(piece) {
+    match writer.write_some(piece) {
         Ok(taken) if 0 < taken || piece.is_empty() => Ok(taken),
         _ => Err(SinkFault::Failed),
     }
