@@ -140,7 +140,8 @@ impl Folder for MemFolder {
         ensures never_too_large { IsErrOf result FolderFault.TooLarge → ⊥ }
 
         // It fails at the calls that are to fail, and at no other.
-        ensures fails { IsErrOf result FolderFault.Failed ↔ IsTrue (fails_next (mem_fail_at self.old) (mem_calls self.old)) }
+        ensures fails { IsErrOf result FolderFault.Failed
+            ↔ IsTrue (fails_next (mem_fail_at self.old) (mem_calls self.old)) }
         ensures counts { mem_calls self.new ≡ next_count (mem_calls self.old) }
         ensures fail_at { mem_fail_at self.new ≡ mem_fail_at self.old }
         ensures failed { IsErrOf result FolderFault.Failed → Rose (mem_faults self.old) (mem_faults self.new) }
@@ -163,7 +164,8 @@ impl Folder for MemFolder {
         ensures told { Reads (Some (mem_files self.old)) path.now result }
         ensures within { IfOk result IsWithinLimit }
 
-        ensures fails { IsErrOf result FolderFault.Failed ↔ IsTrue (fails_next (mem_fail_at self.old) (mem_calls self.old)) }
+        ensures fails { IsErrOf result FolderFault.Failed
+            ↔ IsTrue (fails_next (mem_fail_at self.old) (mem_calls self.old)) }
         ensures counts { mem_calls self.new ≡ next_count (mem_calls self.old) }
         ensures fail_at { mem_fail_at self.new ≡ mem_fail_at self.old }
         ensures failed { IsErrOf result FolderFault.Failed → Rose (mem_faults self.old) (mem_faults self.new) }
@@ -297,7 +299,8 @@ fn add_path(
     dirs: &mut BTreeMap<String, BTreeMap<Text, bool>>,
     path: &str,
 ) -> Result<(), NoMemory>
-    ensures { OnOk result ((dir : List ℕ) → names_at dirs.new dir ≡ with_name (names_at dirs.old dir) (name_in dir path.now)) }
+    ensures { OnOk result ((dir : List ℕ)
+        → names_at dirs.new dir ≡ with_name (names_at dirs.old dir) (name_in dir path.now)) }
 {
     add_in(alloc, dirs, "", path)?;
     for end in 1..path.len() {
@@ -331,7 +334,8 @@ fn add_in(
     dir: &str,
     path: &str,
 ) -> Result<(), NoMemory>
-    ensures { OnOk result (PutsNames dirs.old dirs.new dir.now (with_name (names_at dirs.old dir.now) (name_in dir.now path.now))) }
+    ensures { OnOk result (PutsNames dirs.old dirs.new dir.now
+        (with_name (names_at dirs.old dir.now) (name_in dir.now path.now))) }
 {
     let mut names = taken_names(alloc, dirs, dir);
     add_name(alloc, &mut names, name_in(dir, path))?;
@@ -345,7 +349,8 @@ fn taken_names(
     dir: &str,
 ) -> BTreeMap<Text, bool>
     ensures names { result.entries ≡ names_at dirs.old dir.now }
-    ensures others { (other : List ℕ) → bytes_eq dir.now other ≡ false → names_at dirs.new other ≡ names_at dirs.old other }
+    ensures others { (other : List ℕ) → bytes_eq dir.now other ≡ false
+        → names_at dirs.new other ≡ names_at dirs.old other }
 {
     match dirs.remove(dir) {
         Some(names) => names,
@@ -370,7 +375,8 @@ fn add_name(
     names: &mut BTreeMap<Text, bool>,
     name: Option<(&str, bool)>,
 ) -> Result<(), NoMemory>
-    ensures { OnOk result (names.new.entries ≡ with_name names.old.entries (option_map (λ name. (name.0.now, name.1)) name.entry)) }
+    ensures { OnOk result (names.new.entries
+        ≡ with_name names.old.entries (option_map (λ name. (name.0.now, name.1)) name.entry)) }
 {
     if let Some((name, folder)) = name {
         names.insert(Text::from_str(alloc, name)?, folder)?;

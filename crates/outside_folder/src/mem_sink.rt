@@ -96,12 +96,14 @@ impl Sink for MemSink {
 
     fn write(&mut self, piece: &[u8]) -> Result<usize, SinkFault>
         ensures count { IfOk result (IsCount piece.now) }
-        ensures ok { IfOk result (λ n. Appends (Some (written_bytes self.old)) (Some (written_bytes self.new)) (take n piece.now)) }
+        ensures ok { IfOk result
+            (λ n. Appends (Some (written_bytes self.old)) (Some (written_bytes self.new)) (take n piece.now)) }
         ensures err { OnErr result (Some (written_bytes self.new) ≡ Some (written_bytes self.old)) }
 
         // It takes as much as it can, and fails where it is to fail or can take nothing.
         ensures taken { IfOk result (λ n. n ≡ taken_of self.old piece.now) }
-        ensures fails { IsErr result ↔ ((number_fails self.old ≡ true) ⊎ ((0 < length piece.now) × (taken_of self.old piece.now ≡ 0))) }
+        ensures fails { IsErr result
+            ↔ ((number_fails self.old ≡ true) ⊎ ((0 < length piece.now) × (taken_of self.old piece.now ≡ 0))) }
         ensures counts { sink_writes self.new ≡ next_count (sink_writes self.old) }
         ensures room { sink_room self.new ≡ sink_room self.old }
         ensures most { sink_most self.new ≡ sink_most self.old }
