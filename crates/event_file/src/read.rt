@@ -16,7 +16,7 @@ pub fn read_event_file<F: Folder>(
     path: &Text,
     folder: &mut F,
 ) -> Result<List<JobEvent>, Halt>
-    ensures told { IfSome (F.tells folder.old) (λ files. Answers (AreEventsAt path.now files) result) }
+    ensures observed { IfSome (F.tells folder.old) (λ files. Answers (AreEventsAt path.now files) result) }
     ensures folder { Leaves F.tells F.faults folder.old folder.new (IsErrOf result Halt.Failed) }
 {
     let content = read_content(alloc, path.as_str(), folder)?;

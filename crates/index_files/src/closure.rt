@@ -35,7 +35,7 @@ pub(crate) fn read_closure<F: Folder>(
     totals: Totals,
     folder: &mut F,
 ) -> Result<Option<List<FoundName>>, Trouble>
-    ensures told { IfSome (F.tells folder.old)
+    ensures observed { IfSome (F.tells folder.old)
         (λ files. IfOk result (Reaches (ground_of before.now) totals.files totals.bytes files)) }
     ensures kept { IfOk result (λ found. IfSome found
         (λ found. AreKept (ground_of before.now) (map (λ f. f.name) found) found)) }
@@ -91,7 +91,7 @@ fn visit<F: Folder>(
     folder: &mut F,
 ) -> Result<Option<FoundName>, Trouble>
     requires { place < length names.old.keys }
-    ensures told { IfSome (F.tells folder.old) (λ files. IfOk result
+    ensures observed { IfSome (F.tells folder.old) (λ files. IfOk result
         (VisitsAt (ground_of before.now) files names.old.keys place totals.old totals.new)) }
     ensures found { IfOk result (λ read. IfSome read
         (FindsAt (ground_of before.now) place names.old.keys names.new.keys)) }

@@ -55,7 +55,7 @@ pub(crate) fn read_counted<F: Folder>(
     totals: &mut Totals,
     folder: &mut F,
 ) -> Result<Fetched, Trouble>
-    ensures told { IfSome (F.tells folder.old)
+    ensures observed { IfSome (F.tells folder.old)
         (λ files. IfOk result (λ read. read.files ≡ fitting_at totals.old false files paths.now)) }
     ensures counts { IfOk result (λ read. Counts totals.old totals.new read.files) }
     ensures readable { IfOk result (λ read. AllByRecursion HasContentWithinLimit read.files) }
@@ -86,7 +86,7 @@ pub(crate) fn read_file<F: Folder>(
     listed: bool,
     folder: &mut F,
 ) -> Result<ReadFile, Trouble>
-    ensures told { IfSome (F.tells folder.old)
+    ensures observed { IfSome (F.tells folder.old)
         (λ files. IfOk result (λ file. file ≡ file_found listed files path.now)) }
     ensures readable { IfOk result HasContentWithinLimit }
     ensures folder { Leaves F.tells F.faults folder.old folder.new (IsErrOf result Trouble.Failed) }

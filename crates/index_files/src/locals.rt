@@ -42,7 +42,7 @@ pub(crate) fn read_locals<F: Folder>(
     env: &Env,
     folder: &mut F,
 ) -> Result<Locals, Halt>
-    ensures told { IfSome (F.tells folder.old) (λ files. Answers
+    ensures observed { IfSome (F.tells folder.old) (λ files. Answers
         (OnPart (λ locals. locals.list) (ReadsLocals env.now paths.now files)) result) }
     ensures form { IfOk result (λ locals. AreFromFiles env.now locals.list) }
     ensures folder { Leaves F.tells F.faults folder.old folder.new (IsErrOf result Halt.Failed) }

@@ -44,7 +44,7 @@ pub fn read_index_files<F: Folder>(
     env: &Env,
     folder: &mut F,
 ) -> Result<Readings, Halt>
-    ensures told { IfSome (F.tells folder.old)
+    ensures observed { IfSome (F.tells folder.old)
         (λ files. Answers (AreReadings env.now places.now extra.now paths.now files) result) }
     ensures form { IfOk result (AreWellFormed env.now places.now extra.now) }
     ensures folder { Leaves F.tells F.faults folder.old folder.new (IsErrOf result Halt.Failed) }
@@ -56,7 +56,7 @@ pub fn read_index_files<F: Folder>(
 }
 
 fn read_units<F: Folder>(alloc: Global, places: &Places, folder: &mut F) -> Result<Counted, Halt>
-    ensures told { IfSome (F.tells folder.old) (λ files. Answers
+    ensures observed { IfSome (F.tells folder.old) (λ files. Answers
         (OnPart (λ counted. counted.units.list) (ReadsUnits places.now files)) result) }
     ensures counts { IfSome (F.tells folder.old) (λ files. IfOk result
         (λ counted. CountsAll counted.totals (record_files places.now files))) }
@@ -73,7 +73,7 @@ fn record_paths<F: Folder>(
     places: &Places,
     folder: &mut F,
 ) -> Result<List<Text>, Trouble>
-    ensures told { IfSome (F.tells folder.old)
+    ensures observed { IfSome (F.tells folder.old)
         (λ files. IfOk result (λ paths. paths ≡ paths_of_records places.now files)) }
     ensures folder { Leaves F.tells F.faults folder.old folder.new (IsErrOf result Trouble.Failed) }
 {
@@ -110,7 +110,7 @@ fn read_indexed<F: Folder>(
     env: &Env,
     folder: &mut F,
 ) -> Result<Readings, Halt>
-    ensures told { IfSome (F.tells folder.old) (λ files. Answers
+    ensures observed { IfSome (F.tells folder.old) (λ files. Answers
         (AreIndexed (ground_from env.now places.now locals counted.units extra.now) counted.totals.files
         counted.totals.bytes files) result) }
     ensures kept { IfOk result (AreOverGround (ground_from env.now places.now locals counted.units extra.now)) }

@@ -53,7 +53,7 @@ pub(crate) fn read_records<F: Folder>(
     paths: &[Text],
     folder: &mut F,
 ) -> Result<Counted, Halt>
-    ensures told { IfSome (F.tells folder.old) (λ files. Answers
+    ensures observed { IfSome (F.tells folder.old) (λ files. Answers
         (OnPart (λ counted. counted.units.list)
         (AreUnitsOf places.now (map (file_found true files) paths.now))) result) }
     ensures counts { IfSome (F.tells folder.old) (λ files. IfOk result

@@ -24,7 +24,7 @@ pub(crate) fn read_name<F: Folder>(
     totals: &mut Totals,
     folder: &mut F,
 ) -> Result<Option<List<Release>>, Trouble>
-    ensures told { IfSome (F.tells folder.old)
+    ensures observed { IfSome (F.tells folder.old)
         (λ files. IfOk result (Visits (ground_of before.now) files name.now totals.old totals.new)) }
     ensures judged { IfOk result (λ read. IfSome read (AreJudged before.now.env.now name.now)) }
     ensures folder { Leaves F.tells F.faults folder.old folder.new (IsErrOf result Trouble.Failed) }
@@ -42,7 +42,7 @@ fn read_releases<F: Folder>(
     totals: &mut Totals,
     folder: &mut F,
 ) -> Result<Option<List<Release>>, Trouble>
-    ensures told { IfSome (F.tells folder.old) (λ files. IfOk result
+    ensures observed { IfSome (F.tells folder.old) (λ files. IfOk result
         (Reads before.now.env.now before.now.places.now files name.now totals.old totals.new)) }
     ensures judged { IfOk result (λ read. IfSome read (AreJudged before.now.env.now name.now)) }
     ensures folder { Leaves F.tells F.faults folder.old folder.new (IsErrOf result Trouble.Failed) }
@@ -70,7 +70,7 @@ fn names_below<F: Folder>(
     name: &Text,
     folder: &mut F,
 ) -> Result<List<Name>, Trouble>
-    ensures told { IfSome (F.tells folder.old)
+    ensures observed { IfSome (F.tells folder.old)
         (λ files. IfOk result (λ names. names ≡ names_below places.now files name.now)) }
     ensures order { IfOk result IsInOrder }
     ensures folder { Leaves F.tells F.faults folder.old folder.new (IsErrOf result Trouble.Failed) }

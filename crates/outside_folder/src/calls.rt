@@ -52,7 +52,7 @@ pub fn list_names<F: Folder>(
     dir: &str,
     folder: &mut F,
 ) -> Result<Option<List<Name>>, Trouble>
-    ensures told { IfSome (F.tells folder.old) (λ files. IfOk result (λ names. names ≡ listing files dir.now)) }
+    ensures observed { IfSome (F.tells folder.old) (λ files. IfOk result (λ names. names ≡ listing files dir.now)) }
     ensures order { IfOk result (λ names. IfSome names IsInOrder) }
     ensures tree { IfSome (F.tells folder.old) (λ files. IsTrue (is_tree files)) }
     ensures folder { Leaves F.tells F.faults folder.old folder.new (IsErrOf result Trouble.Failed) }
@@ -71,7 +71,7 @@ pub fn read_content<F: Folder>(
     path: &str,
     folder: &mut F,
 ) -> Result<Content, Trouble>
-    ensures told { IfSome (F.tells folder.old) (λ files. IfOk result (λ content. content ≡ content_at files path.now)) }
+    ensures observed { IfSome (F.tells folder.old) (λ files. IfOk result (λ content. content ≡ content_at files path.now)) }
     ensures within { IfOk result IsWithin }
     ensures tree { IfSome (F.tells folder.old) (λ files. IsTrue (is_tree files)) }
     ensures folder { Leaves F.tells F.faults folder.old folder.new (IsErrOf result Trouble.Failed) }

@@ -55,7 +55,7 @@ pub trait Folder {
     /// The names in a directory, in byte order, each once; `None` where there is no such directory. The root is
     /// never missing.
     fn list(&mut self, alloc: Global, dir: &str) -> Result<Option<List<Name>>, FolderFault>
-        ensures told { Lists (tells self.old) dir.now result }
+        ensures observed { Lists (tells self.old) dir.now result }
         ensures order { IfOk result (λ names. IfSome names IsInOrder) }
         ensures root { dir.now ≡ [] → IfOk result IsSome }
         ensures never_too_large { IsErrOf result FolderFault.TooLarge → ⊥ }
@@ -72,7 +72,7 @@ pub trait Folder {
 
     /// The bytes of a file; `None` where there is no such file.
     fn read(&mut self, alloc: Global, path: &str) -> Result<Option<List<u8>>, FolderFault>
-        ensures told { Reads (tells self.old) path.now result }
+        ensures observed { Reads (tells self.old) path.now result }
         ensures within { IfOk result IsWithinLimit }
 
         ensures failed { IsErrOf result FolderFault.Failed → Rose (faults self.old) (faults self.new) }

@@ -134,7 +134,7 @@ impl Folder for MemFolder {
     ghost faults = { λ folder. mem_faults folder };
 
     fn list(&mut self, alloc: Global, dir: &str) -> Result<Option<List<Name>>, FolderFault>
-        ensures told { Lists (Some (mem_files self.old)) dir.now result }
+        ensures observed { Lists (Some (mem_files self.old)) dir.now result }
         ensures order { IfOk result (λ names. IfSome names IsInOrder) }
         ensures root { dir.now ≡ [] → IfOk result IsSome }
         ensures never_too_large { IsErrOf result FolderFault.TooLarge → ⊥ }
@@ -161,7 +161,7 @@ impl Folder for MemFolder {
     }
 
     fn read(&mut self, alloc: Global, path: &str) -> Result<Option<List<u8>>, FolderFault>
-        ensures told { Reads (Some (mem_files self.old)) path.now result }
+        ensures observed { Reads (Some (mem_files self.old)) path.now result }
         ensures within { IfOk result IsWithinLimit }
 
         ensures fails { IsErrOf result FolderFault.Failed
@@ -200,7 +200,7 @@ fn bytes_at(
     path: &str,
 ) -> Result<Option<List<u8>>, FolderFault>
     requires { Placed files.now places.now }
-    ensures told { Reads (Some (told files.now)) path.now result }
+    ensures observed { Reads (Some (told files.now)) path.now result }
     ensures within { IfOk result IsWithinLimit }
     ensures not_failed { IsErrOf result FolderFault.Failed → ⊥ }
 {
@@ -240,7 +240,7 @@ fn listing(
     dirs: &BTreeMap<String, BTreeMap<Text, bool>>,
     dir: &str,
 ) -> Result<Option<List<Name>>, NoMemory>
-    ensures told { IfOk result (λ names. names ≡ unless_missing dir.now (names_at dirs.now dir.now)) }
+    ensures observed { IfOk result (λ names. names ≡ unless_missing dir.now (names_at dirs.now dir.now)) }
     ensures order { IfOk result (λ names. IfSome names IsInOrder) }
 {
     let names = names_of(alloc, dirs, dir)?;

@@ -195,7 +195,7 @@ fn listing_of<S: SystemCalls, I: Iterator<Item = io::Result<DirEntry<S, Global>>
 ) -> Result<Option<List<Name>>, FolderFault>
     requires can { IfOk opened I.can_next }
     requires finite { IfOk opened (λ entries. IsFinite (I.remaining entries)) }
-    ensures told { IsListingOf (S.finds system.now) I.next_gives dir.now opened result }
+    ensures observed { IsListingOf (S.finds system.now) I.next_gives dir.now opened result }
     ensures order { IfOk result (λ names. IfSome names IsInOrder) }
     ensures root { dir.now ≡ [] → IfOk result IsSome }
     ensures never_too_large { IsErrOf result FolderFault.TooLarge → ⊥ }
@@ -216,7 +216,7 @@ fn unlisted(
     dir: &str,
     error: &io::Error,
 ) -> Result<Option<List<Name>>, FolderFault>
-    ensures told { IsUnlisted dir.now error.now result }
+    ensures observed { IsUnlisted dir.now error.now result }
     ensures root { dir.now ≡ [] → IfOk result IsSome }
     ensures never_too_large { IsErrOf result FolderFault.TooLarge → ⊥ }
     ensures counted { Counts faults.old faults.new (IsErrOf result FolderFault.Failed) }
@@ -356,7 +356,7 @@ fn read_of<S: SystemCalls>(
     path: &str,
     opened: io::Result<S::File>,
 ) -> Result<Option<List<u8>>, FolderFault>
-    ensures told { IsReadOf (S.gives system.now) path.now opened result }
+    ensures observed { IsReadOf (S.gives system.now) path.now opened result }
     ensures within { IfOk result IsWithinLimit }
     ensures counted { Counts faults.old faults.new (IsErrOf result FolderFault.Failed) }
 {
@@ -374,7 +374,7 @@ fn read_all<S: SystemCalls>(
     path: &str,
     file: S::File,
 ) -> Result<Option<List<u8>>, FolderFault>
-    ensures told { IsReadAs (S.gives system.now) path.now file result }
+    ensures observed { IsReadAs (S.gives system.now) path.now file result }
     ensures within { IfOk result IsWithinLimit }
     ensures counted { Counts faults.old faults.new (IsErrOf result FolderFault.Failed) }
 {
@@ -407,7 +407,7 @@ fn add_piece(bytes: &mut Vec<u8>, piece: &[u8]) -> Result<(), NoMemory>
 
 // A directory is no file.
 fn unread(faults: &mut u64, path: &str, error: &io::Error) -> Result<Option<List<u8>>, FolderFault>
-    ensures told { IsUnread path.now error.now result }
+    ensures observed { IsUnread path.now error.now result }
     ensures within { IfOk result IsWithinLimit }
     ensures never_read { IfOk result (λ bytes. bytes ≡ None) }
     ensures never_too_large { IsErrOf result FolderFault.TooLarge → ⊥ }

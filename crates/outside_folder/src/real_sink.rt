@@ -49,7 +49,7 @@ impl<W: WriterCalls> Sink for WriterSink<W> {
         ensures err { OnErr result (untold ≡ untold) }
 
         // The writer is asked once. It fails where it gives an error, or takes nothing of a piece.
-        ensures told { Takes W.writes self.old.writer piece.now result self.new.writer }
+        ensures observed { Takes W.writes self.old.writer piece.now result self.new.writer }
 
         // The writer holds what was taken and no more, where it tells what it holds.
         ensures taken { IfOk result
@@ -73,7 +73,7 @@ impl<W: WriterCalls> Sink for WriterSink<W> {
 // Writes some bytes from the front of a piece, and says how many. A writer that takes nothing of one has failed.
 fn taken_by<W: WriterCalls>(writer: &mut W, piece: &[u8]) -> Result<usize, SinkFault>
     ensures count { IfOk result (IsCount piece.now) }
-    ensures told { Takes W.writes writer.old piece.now result writer.new }
+    ensures observed { Takes W.writes writer.old piece.now result writer.new }
     ensures ok { IfOk result (λ n. known.Appends (W.contents writer.old) (W.contents writer.new) (take n piece.now)) }
     ensures err { OnErr result (known.Keeps (W.contents writer.old) (W.contents writer.new)) }
 {

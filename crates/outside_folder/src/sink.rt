@@ -27,7 +27,7 @@ pub trait Sink {
 
     /// Takes some bytes from the front of a piece, at least one where there are any, and says how many.
     fn write(&mut self, piece: &[u8]) -> Result<usize, SinkFault>
-        ensures told { takes self.old piece.now result self.new }
+        ensures observed { takes self.old piece.now result self.new }
         ensures count { IfOk result (IsCount piece.now) }
         ensures ok { IfOk result (λ n. Appends (bytes self.old) (bytes self.new) (take n piece.now)) }
         ensures err { OnErr result (bytes self.new ≡ bytes self.old) }

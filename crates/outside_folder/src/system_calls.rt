@@ -41,7 +41,7 @@ pub trait SystemCalls: Files + AllocGlobal + Clone + Drop {
     /// Reads some bytes of a file to the front of a buffer, and says how many.
     fn read_some(&self, file: &mut Self::File, buffer: &mut [u8]) -> io::Result<usize>
         ensures bound { ReadsAtMost result buffer.new }
-        ensures told { gives self.now file.old (bytes_given result buffer.new) file.new };
+        ensures observed { gives self.now file.old (bytes_given result buffer.new) file.new };
 }
 
 impl<R: Files + AllocGlobal + Clone + Drop> SystemCalls for R {
@@ -78,7 +78,7 @@ pub trait WriterCalls: Write {
     fn write_some(&mut self, piece: &[u8]) -> io::Result<usize>
         ensures bound { WritesAtMost result piece.now }
         ensures bytes { WriteAppends (Self.contents self.old) (Self.contents self.new) result piece.now }
-        ensures told { writes self.old piece.now result self.new };
+        ensures observed { writes self.old piece.now result self.new };
 }
 
 impl<W: Write> WriterCalls for W {

@@ -24,7 +24,7 @@ pub fn build_index<F: Folder>(
     folder: &mut F,
 ) -> Result<Index, Halt>
     requires { AreNamed extra.now }
-    ensures told { IfSome (F.tells folder.old)
+    ensures observed { IfSome (F.tells folder.old)
         (λ files. Answers (IsFolderIndex env.now places.now extra.now locals.now files) result) }
     ensures sound { IfOk result (IsSound env.now) }
     ensures extra { IfOk result (AreThere extra.now) }

@@ -58,7 +58,7 @@ pub fn run<F: Folder, S: Sink>(alloc: Global, words: &[Text], folder: &mut F, ou
         → Prints (MeansReplay options events slots files) (S.bytes out.old) (S.bytes out.new) result }
 
     // The output is that of the words and the files read for them, whether or not a count of faults rose.
-    ensures told { (files : Files) → Reads (reading words.now) (F.tells folder.old) files
+    ensures observed { (files : Files) → Reads (reading words.now) (F.tells folder.old) files
         → Prints (IsOutputOf words.now files) (S.bytes out.old) (S.bytes out.new) result }
 
     // Over any folder, the run writes one text, a prefix of it, or nothing. The text is the line of a refusal, the
@@ -121,7 +121,7 @@ fn perform<F: Folder, S: Sink>(
     ensures replayed { (options : PlanOptions) (events : Bytes) (slots : ℕ) (files : Files)
         → command ≡ Replay options events slots → F.tells folder.old ≡ Some files
         → Prints (MeansReplay options events slots files) (S.bytes out.old) (S.bytes out.new) result }
-    ensures told { (files : Files) → Reads (Some command) (F.tells folder.old) files
+    ensures observed { (files : Files) → Reads (Some command) (F.tells folder.old) files
         → Prints (IsOutputOfCommand (Some command) files) (S.bytes out.old) (S.bytes out.new) result }
     ensures generated { (number : ℕ) (limit : TheLimit) → command ≡ Generate number limit
         → Prints (MeansGenerated number limit) (S.bytes out.old) (S.bytes out.new) result }
@@ -153,7 +153,7 @@ fn output_of<F: Folder>(alloc: Global, command: Command, folder: &mut F) -> Resu
     ensures replayed { (options : PlanOptions) (events : Bytes) (slots : ℕ) (files : Files)
         → command ≡ Replay options events slots → F.tells folder.old ≡ Some files
         → IfOk result (MeansReplay options events slots files) }
-    ensures told { (files : Files) → Reads (Some command) (F.tells folder.old) files
+    ensures observed { (files : Files) → Reads (Some command) (F.tells folder.old) files
         → IfOk result (IsOutputOfCommand (Some command) files) }
     ensures generated { (number : ℕ) (limit : TheLimit) → command ≡ Generate number limit
         → IfOk result (MeansGenerated number limit) }

@@ -27,7 +27,7 @@ pub(crate) fn output_of_plan<F: Folder>(
 ) -> Result<Output, Trouble>
     ensures headline { (files : Files) → F.tells folder.old ≡ Some files
         → IfOk result (Means (picking_of options) options.minimize form.now options files) }
-    ensures told { (files : Files) → F.tells folder.old ≡ Some files
+    ensures observed { (files : Files) → F.tells folder.old ≡ Some files
         → IfOk result (IsOutputOfPlan form.now options files) }
     ensures form { IfOk result (IsPossibleOutput (picking_of options) options.minimize (λ own. own ≡ form.now)) }
     ensures made { IfOk result (λ output. HasOutput output.status) }

@@ -29,7 +29,7 @@ pub(crate) fn output_of_replay<F: Folder>(
 ) -> Result<Output, Trouble>
     ensures meaning { (files : Files) → F.tells folder.old ≡ Some files
         → IfOk result (MeansReplay options events.now slots files) }
-    ensures told { (files : Files) → F.tells folder.old ≡ Some files
+    ensures observed { (files : Files) → F.tells folder.old ≡ Some files
         → IfOk result (IsOutputOfReplay options events.now slots files) }
     ensures form { IfOk result (MayPrint (Some (Replay options events.now slots))) }
     ensures made { IfOk result (λ output. HasOutput output.status) }

@@ -27,7 +27,7 @@ pub struct Task {
 
 /// The task of a folder with these options, or the first refusal.
 pub fn read_task<F: Folder>(alloc: Global, options: Options, folder: &mut F) -> Result<Task, Halt>
-    ensures told { IfSome (F.tells folder.old) (λ files. Answers (IsTask options files) result) }
+    ensures observed { IfSome (F.tells folder.old) (λ files. Answers (IsTask options files) result) }
     ensures freeze { IfSome (F.tells folder.old) (λ files. IfOk result (λ task. task.freeze ≡ freeze_bytes files)) }
     ensures ready { IfOk result IsReady }
     ensures folder { Leaves F.tells F.faults folder.old folder.new (IsErrOf result Halt.Failed) }
@@ -44,7 +44,7 @@ fn task_in<F: Folder>(
     folder: &mut F,
 ) -> Result<Task, Halt>
     requires { list_all (λ named. is_package_name named.name) found.project.extra ≡ true }
-    ensures told { IfSome (F.tells folder.old) (λ files. Answers (IsTaskOf options files (Ok found)) result) }
+    ensures observed { IfSome (F.tells folder.old) (λ files. Answers (IsTaskOf options files (Ok found)) result) }
     ensures freeze { IfOk result (λ task. task.freeze ≡ found.freeze) }
     ensures ready { IfOk result IsReady }
     ensures folder { Leaves F.tells F.faults folder.old folder.new (IsErrOf result Halt.Failed) }

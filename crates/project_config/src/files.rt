@@ -29,7 +29,7 @@ pub(crate) fn read_files<F: Folder>(
     env: &Env,
     folder: &mut F,
 ) -> Result<FilesProject, Halt>
-    ensures told { IfSome (F.tells folder.old) (λ files. Answers (AreSaid env.now files) result) }
+    ensures observed { IfSome (F.tells folder.old) (λ files. Answers (AreSaid env.now files) result) }
     ensures extra { IfOk result (λ found. list_all (λ named. is_package_name named.name)
         found.project.extra ≡ true) }
     ensures folder { Leaves F.tells F.faults folder.old folder.new (IsErrOf result Halt.Failed) }

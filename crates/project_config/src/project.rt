@@ -30,7 +30,7 @@ pub fn read_folder_project<F: Folder>(
     env: &Env,
     folder: &mut F,
 ) -> Result<FolderProject, Halt>
-    ensures told { IfSome (F.tells folder.old) (λ files. Answers (IsFolderProject env.now files) result) }
+    ensures observed { IfSome (F.tells folder.old) (λ files. Answers (IsFolderProject env.now files) result) }
     ensures freeze { IfSome (F.tells folder.old) (λ files. IfOk result (λ found. found.freeze ≡ freeze_bytes files)) }
     ensures extra { IfOk result (λ found. list_all (λ named. is_package_name named.name)
         found.project.extra ≡ true) }

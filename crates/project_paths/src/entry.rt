@@ -22,7 +22,7 @@ pub(crate) fn entry_files<F: Folder>(
     folder: &mut F,
 ) -> Result<List<Text>, Halt>
     requires { Agree (F.tells folder.old) listings.old }
-    ensures told { IfSome (F.tells folder.old)
+    ensures observed { IfSome (F.tells folder.old)
         (λ files. Answers (λ outcome. outcome ≡ entry_files files entry.now) result) }
     ensures agree { OnOk result (Agree (F.tells folder.new) listings.new) }
     ensures folder { Leaves F.tells F.faults folder.old folder.new (IsErrOf result Halt.Failed) }
@@ -44,7 +44,7 @@ fn files_by<F: Folder>(
     folder: &mut F,
 ) -> Result<List<Text>, Halt>
     requires { Agree (F.tells folder.old) listings.old }
-    ensures told { IfSome (F.tells folder.old)
+    ensures observed { IfSome (F.tells folder.old)
         (λ files. Answers (λ outcome. outcome ≡ judged entry.now (found_by files pattern.now)) result) }
     ensures agree { OnOk result (Agree (F.tells folder.new) listings.new) }
     ensures folder { Leaves F.tells F.faults folder.old folder.new (IsErrOf result Halt.Failed) }

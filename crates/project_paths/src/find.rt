@@ -25,7 +25,7 @@ pub fn find_packages<F: Folder>(
     implicit: bool,
     folder: &mut F,
 ) -> Result<List<Text>, Halt>
-    ensures told { IfSome (F.tells folder.old)
+    ensures observed { IfSome (F.tells folder.old)
         (λ files. Answers (λ outcome. outcome ≡ local_files files
         (sought implicit project.now.entries)) result) }
     ensures order { IfOk result (IsStrictlySortedBy (slice_cmp nat_cmp)) }
@@ -64,7 +64,7 @@ fn find_entries<F: Folder>(
     folder: &mut F,
 ) -> Result<List<Text>, Halt>
     requires { Agree (F.tells folder.old) listings.old }
-    ensures told { IfSome (F.tells folder.old)
+    ensures observed { IfSome (F.tells folder.old)
         (λ files. Answers (λ outcome. outcome ≡ all_files files entries.now) result) }
     ensures agree { OnOk result (Agree (F.tells folder.new) listings.new) }
     ensures folder { Leaves F.tells F.faults folder.old folder.new (IsErrOf result Halt.Failed) }

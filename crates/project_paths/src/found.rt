@@ -29,7 +29,7 @@ pub(crate) fn found_by<F: Folder>(
     folder: &mut F,
 ) -> Result<List<FoundFiles>, Trouble>
     requires { Agree (F.tells folder.old) listings.old }
-    ensures told { IfSome (F.tells folder.old)
+    ensures observed { IfSome (F.tells folder.old)
         (λ files. IfOk result (λ all. filter has_files all ≡ filter has_files (found_by files pattern.now))) }
     ensures agree { OnOk result (Agree (F.tells folder.new) listings.new) }
     ensures folder { Leaves F.tells F.faults folder.old folder.new (IsErrOf result Trouble.Failed) }
@@ -51,7 +51,7 @@ fn found_at<F: Folder>(
     folder: &mut F,
 ) -> Result<FoundFiles, Trouble>
     requires { Agree (F.tells folder.old) listings.old }
-    ensures told { IfSome (F.tells folder.old) (λ files. IfOk result (Finds files folders spot.now)) }
+    ensures observed { IfSome (F.tells folder.old) (λ files. IfOk result (Finds files folders spot.now)) }
     ensures tree { IfSome (F.tells folder.old) (λ files. OnOk result (IsTrue (is_open spot.now) → IsTrue (is_tree files))) }
     ensures agree { OnOk result (Agree (F.tells folder.new) listings.new) }
     ensures folder { Leaves F.tells F.faults folder.old folder.new (IsErrOf result Trouble.Failed) }
@@ -69,7 +69,7 @@ fn files_at<F: Folder>(
     folder: &mut F,
 ) -> Result<List<Text>, Trouble>
     requires { Agree (F.tells folder.old) listings.old }
-    ensures told { IfSome (F.tells folder.old)
+    ensures observed { IfSome (F.tells folder.old)
         (λ files. IfOk result (λ found. Finds files folders spot.now (found_files (path_of spot.now) found))) }
     ensures tree { IfSome (F.tells folder.old) (λ files. OnOk result (IsTrue (is_open spot.now) → IsTrue (is_tree files))) }
     ensures agree { OnOk result (Agree (F.tells folder.new) listings.new) }
@@ -91,7 +91,7 @@ fn is_local_file<F: Folder>(
     spot: &Spot,
     folder: &mut F,
 ) -> Result<bool, Trouble>
-    ensures told { IfSome (F.tells folder.old) (λ files. IfOk result (λ yes. yes ≡ is_local_file files folders spot.now)) }
+    ensures observed { IfSome (F.tells folder.old) (λ files. IfOk result (λ yes. yes ≡ is_local_file files folders spot.now)) }
     ensures tree { IfSome (F.tells folder.old) (λ files. IfOk result (λ yes. IsTrue yes → IsTrue (is_open spot.now) → IsTrue (is_tree files))) }
     ensures folder { Leaves F.tells F.faults folder.old folder.new (IsErrOf result Trouble.Failed) }
 {
@@ -107,7 +107,7 @@ fn is_local_file<F: Folder>(
 }
 
 fn is_file<F: Folder>(alloc: Global, path: &Text, folder: &mut F) -> Result<bool, Trouble>
-    ensures told { IfSome (F.tells folder.old) (λ files. IfOk result (λ yes. yes ≡ is_some (file_at files path.now))) }
+    ensures observed { IfSome (F.tells folder.old) (λ files. IfOk result (λ yes. yes ≡ is_some (file_at files path.now))) }
     ensures tree { IfSome (F.tells folder.old) (λ files. IsTrue (is_tree files)) }
     ensures folder { Leaves F.tells F.faults folder.old folder.new (IsErrOf result Trouble.Failed) }
 {
@@ -145,7 +145,7 @@ fn cabal_at<F: Folder>(
     folder: &mut F,
 ) -> Result<List<Text>, Trouble>
     requires { Agree (F.tells folder.old) listings.old }
-    ensures told { IfSome (F.tells folder.old) (λ files. IfOk result (λ found. found ≡ cabal_in dir.now (names_in files dir.now))) }
+    ensures observed { IfSome (F.tells folder.old) (λ files. IfOk result (λ found. found ≡ cabal_in dir.now (names_in files dir.now))) }
     ensures tree { IfSome (F.tells folder.old) (λ files. OnOk result (IsTrue (is_tree files))) }
     ensures agree { OnOk result (Agree (F.tells folder.new) listings.new) }
     ensures folder { Leaves F.tells F.faults folder.old folder.new (IsErrOf result Trouble.Failed) }

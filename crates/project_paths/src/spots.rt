@@ -68,7 +68,7 @@ pub(crate) fn spots<F: Folder>(
     folder: &mut F,
 ) -> Result<List<Spot>, Trouble>
     requires { Agree (F.tells folder.old) listings.old }
-    ensures told { IfSome (F.tells folder.old)
+    ensures observed { IfSome (F.tells folder.old)
         (λ files. IfOk result (λ found. Leads files found (places files names.now))) }
     ensures settled { IfSome (F.tells folder.old) (λ files. IfOk result (Settled files)) }
     ensures agree { OnOk result (Agree (F.tells folder.new) listings.new) }
@@ -97,7 +97,7 @@ fn all_below<F: Folder>(
     folder: &mut F,
 ) -> Result<List<Spot>, Trouble>
     requires { Agree (F.tells folder.old) listings.old }
-    ensures told { IfSome (F.tells folder.old)
+    ensures observed { IfSome (F.tells folder.old)
         (λ files. IfOk result (λ found. Leads files found (flat_map (below files pattern.now) (flat_map (seen files) spots)))) }
     ensures settled { IfSome (F.tells folder.old) (λ files. IfOk result (λ found. Settled files spots → Settled files found)) }
     ensures agree { OnOk result (Agree (F.tells folder.new) listings.new) }
@@ -119,7 +119,7 @@ fn below<F: Folder>(
     folder: &mut F,
 ) -> Result<List<Spot>, Trouble>
     requires { Agree (F.tells folder.old) listings.old }
-    ensures told { IfSome (F.tells folder.old)
+    ensures observed { IfSome (F.tells folder.old)
         (λ files. IfOk result (λ found. Leads files found (flat_map (below files pattern.now) (seen files spot)))) }
     ensures settled { IfSome (F.tells folder.old) (λ files. IfOk result (λ found. Settled files (spot ∷ []) → Settled files found)) }
     ensures agree { OnOk result (Agree (F.tells folder.new) listings.new) }
@@ -139,7 +139,7 @@ fn below_dir<F: Folder>(
     folder: &mut F,
 ) -> Result<List<Spot>, Trouble>
     requires { Agree (F.tells folder.old) listings.old }
-    ensures told { IfSome (F.tells folder.old)
+    ensures observed { IfSome (F.tells folder.old)
         (λ files. IfOk result (λ found. Leads files found (below files pattern.now (directory dir)))) }
     ensures settled { IfSome (F.tells folder.old) (λ files. IfOk result (Settled files)) }
     ensures agree { OnOk result (Agree (F.tells folder.new) listings.new) }

@@ -34,7 +34,7 @@ loop-alloc-preserved g c =
       pairs = subst (λ xs. xs ≡ pair_up new (releases_in xs)) (sym ok) (pairs-on ground names new found within pairs c.in-Some.one f);
       kept = subst (AreKept ground new) (sym ok) (kept-on ground names new found within pairs c.in-Some.one f c.loop-alloc.invariant.kept);
       told = λ files t.
-          let told = some_at _ _ files (c.loop-alloc.invariant.folder.same_files ∙ t) c.in_ok-visit.ensures.told in
+          let told = some_at _ _ files (c.loop-alloc.invariant.folder.same_files ∙ t) c.in_ok-visit.ensures.observed in
           let visited : IsVisited ground files (get_or names c.len-in-loop-alloc-2.result []) c.loop-alloc.totals c.visit.new.totals c.in-Some.one.releases =
           subst (λ o. Visits ground files (get_or names c.len-in-loop-alloc-2.result []) c.loop-alloc.totals c.visit.new.totals (option_map (λ (f : FoundName). f.releases) o)) c.in-Some.is told in
           subst (AreReadSoFar ground files c.args.totals c.visit.new.totals new) (sym ok)
@@ -69,8 +69,8 @@ loop-alloc-init g c =
       folder = still _ _ _ (λ never. never);
     }
 
-pub returns-in-None-clause-told : goal.returns-in-None-clause-told
-returns-in-None-clause-told g c = if_some _ _ (λ files t.
+pub returns-in-None-clause-observed : goal.returns-in-None-clause-observed
+returns-in-None-clause-observed g c = if_some _ _ (λ files t.
     let ground = ground_of c.args.before.now in
     let names = c.loop-alloc.names.keys in
     let found = c.loop-alloc.found in
@@ -79,14 +79,14 @@ returns-in-None-clause-told g c = if_some _ _ (λ files t.
     let l = c.len.ensures in
     let m = c.len-in-loop-alloc.ensures.len in
     let within : length found < length names = omega (arith, test, l, m) in
-    let told = some_at _ _ files (c.loop-alloc.invariant.folder.same_files ∙ t) c.in_ok-visit.ensures.told in
+    let told = some_at _ _ files (c.loop-alloc.invariant.folder.same_files ∙ t) c.in_ok-visit.ensures.observed in
     let many : Visits ground files (get_or names c.len-in-loop-alloc-2.result []) c.loop-alloc.totals c.visit.new.totals (option_map (λ (f : FoundName). f.releases) None) =
     subst (λ o. Visits ground files (get_or names c.len-in-loop-alloc-2.result []) c.loop-alloc.totals c.visit.new.totals (option_map (λ (f : FoundName). f.releases) o)) c.in-None.is told in
     beyond-here ground names names found within c.loop-alloc.invariant.pairs files c.args.totals c.loop-alloc.totals c.loop-alloc.invariant.kept (c.loop-alloc.invariant.told files t)
     (subst (λ n. Visits ground files (get_or names n []) c.loop-alloc.totals c.visit.new.totals (option_map (λ (f : FoundName). f.releases) None)) place many))
 
-pub returns-clause-told : goal.returns-clause-told
-returns-clause-told g c = if_some _ _ (λ files t.
+pub returns-clause-observed : goal.returns-clause-observed
+returns-clause-observed g c = if_some _ _ (λ files t.
     let ground = ground_of c.args.before.now in
     let test = c.loop-alloc-test.false in
     let l = c.len.ensures in

@@ -30,27 +30,27 @@ loop-path-preserved g c =
         taken.0 ++ c.in_ok-file.file ∷ [],
         more (FileComes env) with_file [] c.loop-path.locals.list c.in_ok-locals.locals.list taken.0 c.in_ok-file.file taken.1 c.in_ok-locals.ensures,
         λ files t.
-            let found : c.in_ok-file.file ≡ file_found true files c.path-item.result = some_at _ _ files (c.loop-path.invariant.folder.same_files ∙ t) c.in_ok-file.ensures.told in
+            let found : c.in_ok-file.file ≡ file_found true files c.path-item.result = some_at _ _ files (c.loop-path.invariant.folder.same_files ∙ t) c.in_ok-file.ensures.observed in
             (λ i. taken.2 files t i ++ found i ∷ []) ∙ sym (map_take (file_found true files) c.args.paths.now c.loop-path.path-index c.path-item.result c.loop-path-test.true c.path-item.is),
       );
       folder = onward _ _ _ _ _ (λ never. absurd never) (λ e. cc e) c.loop-path.invariant.folder c.in_ok-file.ensures.folder;
     }
 
-pub returns-in_err-file-clause-told : goal.returns-in_err-file-clause-told
-returns-in_err-file-clause-told g c = if_some _ _ (λ files t.
+pub returns-in_err-file-clause-observed : goal.returns-in_err-file-clause-observed
+returns-in_err-file-clause-observed g c = if_some _ _ (λ files t.
     let p = err_from_is_err_and c.from_residual.result c.from_residual.ensures.1 in
     let passed : c.from_residual.result ≡ Err (halt_of c.in_err-file.field-0.0) = p.1 ∙ ap Err p.2 in
     let Is = OnPart (λ (l : Locals). l.list) (ReadsLocals c.args.env.now c.args.paths.now files) in
     subst (Answers Is) (sym passed) (troubled Is c.in_err-file.field-0.0))
 
-pub returns-in_err-locals-clause-told : goal.returns-in_err-locals-clause-told
-returns-in_err-locals-clause-told g c = if_some _ _ (λ files t.
+pub returns-in_err-locals-clause-observed : goal.returns-in_err-locals-clause-observed
+returns-in_err-locals-clause-observed g c = if_some _ _ (λ files t.
     let p = err_from_is_err_and c.from_residual-in_err-locals.result c.from_residual-in_err-locals.ensures.1 in
     let passed : c.from_residual-in_err-locals.result ≡ Err c.in_err-locals.field-0.0 = p.1 ∙ ap Err p.2 in
     let env = c.args.env.now in
     let f = file_found true files in
     let taken = c.loop-path.invariant.taken in
-    let found : c.in_ok-file.file ≡ f c.path-item.result = some_at _ _ files (c.loop-path.invariant.folder.same_files ∙ t) c.in_ok-file.ensures.told in
+    let found : c.in_ok-file.file ≡ f c.path-item.result = some_at _ _ files (c.loop-path.invariant.folder.same_files ∙ t) c.in_ok-file.ensures.observed in
     let split = map_split f c.args.paths.now c.loop-path.path-index c.path-item.result c.loop-path-test.true c.path-item.is in
     let all : map f c.args.paths.now ≡ (taken.0 ++ c.in_ok-file.file ∷ []) ++ split.0 = split.1 ∙ (λ i. (sym (taken.2 files t) i ++ sym found i ∷ []) ++ split.0) in
     let Is = OnPart (λ (l : Locals). l.list) (ReadsLocals env c.args.paths.now files) in
@@ -66,8 +66,8 @@ returns-in_err-locals-clause-folder g c =
     onward _ _ _ _ _ (λ e. absurd (never-passed Is c.in_err-locals.field-0.0 c.from_residual-in_err-locals.result c.in_err-locals.ensures passed e)) (λ e. absurd (cc e))
     c.loop-path.invariant.folder c.in_ok-file.ensures.folder
 
-pub returns-clause-told : goal.returns-clause-told
-returns-clause-told g c = if_some _ _ (λ files t.
+pub returns-clause-observed : goal.returns-clause-observed
+returns-clause-observed g c = if_some _ _ (λ files t.
     let f = file_found true files in
     let taken = c.loop-path.invariant.taken in
     let read : taken.0 ≡ map f c.args.paths.now = taken.2 files t ∙ ap (map f) (take_all c.loop-path.path-index c.args.paths.now c.loop-path-test.false) in

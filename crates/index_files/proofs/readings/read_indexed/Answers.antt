@@ -10,29 +10,29 @@ use Rattle.index_files.proofs.StepsInTurn.{troubled}
 use Rattle.common_laws.specs.Small.{if_some, some_at}
 use Rattle.index_files.proofs.readings.read_indexed.Goals as goal
 
-pub returns-in_err-found-clause-told : goal.returns-in_err-found-clause-told
-returns-in_err-found-clause-told g c = if_some _ _ (λ files t.
+pub returns-in_err-found-clause-observed : goal.returns-in_err-found-clause-observed
+returns-in_err-found-clause-observed g c = if_some _ _ (λ files t.
     let p = err_from_is_err_and c.from_residual-in_err-found.result c.from_residual-in_err-found.ensures.1 in
     let passed : c.from_residual-in_err-found.result ≡ Err (halt_of c.in_err-found.field-0.0) = p.1 ∙ ap Err p.2 in
     let ground : Ground = record { env = c.args.env.now; places = c.args.places.now; locals = c.args.locals.list; units = c.args.counted.units.list; extra = c.args.extra.now } in
     let Is = AreIndexed ground c.args.counted.totals.files c.args.counted.totals.bytes files in
     subst (Answers Is) (sym passed) (troubled Is c.in_err-found.field-0.0))
 
-pub returns-in_ok-too_many-in-None-clause-told : goal.returns-in_ok-too_many-in-None-clause-told
-returns-in_ok-too_many-in-None-clause-told g c = if_some _ _ (λ files t.
+pub returns-in_ok-too_many-in-None-clause-observed : goal.returns-in_ok-too_many-in-None-clause-observed
+returns-in_ok-too_many-in-None-clause-observed g c = if_some _ _ (λ files t.
     let ground : Ground = record { env = c.args.env.now; places = c.args.places.now; locals = c.args.locals.list; units = c.args.counted.units.list; extra = c.args.extra.now } in
     let n = c.args.counted.totals.files in
     let m = c.args.counted.totals.bytes in
-    let told = some_at _ _ files t c.in_ok-found.ensures.told in
+    let told = some_at _ _ files t c.in_ok-found.ensures.observed in
     let beyond = subst (Reaches ground n m files) c.in-None.is told in
     subst (λ (h : Halt). Answers (AreIndexed ground n m files) (Err h)) (sym c.in_ok-too_many-in-None.ensures) (record { beyond = beyond; refusal_is = refl }))
 
-pub returns-in-Some-clause-told : goal.returns-in-Some-clause-told
-returns-in-Some-clause-told g c = if_some _ _ (λ files t.
+pub returns-in-Some-clause-observed : goal.returns-in-Some-clause-observed
+returns-in-Some-clause-observed g c = if_some _ _ (λ files t.
     let ground : Ground = record { env = c.args.env.now; places = c.args.places.now; locals = c.args.locals.list; units = c.args.counted.units.list; extra = c.args.extra.now } in
     let n = c.args.counted.totals.files in
     let m = c.args.counted.totals.bytes in
-    let told = some_at _ _ files t c.in_ok-found.ensures.told in
+    let told = some_at _ _ files t c.in_ok-found.ensures.observed in
     let whole = subst (Reaches ground n m files) c.in-Some.is told in
     subst (AreRead ground n m files) (sym c.readings_of.ensures) (record { locals = refl; units = refl; found = whole }))
 

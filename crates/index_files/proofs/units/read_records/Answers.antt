@@ -47,24 +47,24 @@ loop-path-preserved g c =
         fit-on taken.0 c.loop-path.totals _ _ file taken.2 less files_are bytes_are,
         record { files = files-on taken.0 c.loop-path.totals _ file taken.3 files_are; bytes = bytes-on taken.0 c.loop-path.totals _ file taken.3 bytes_are },
         λ files t.
-            let found : file ≡ file_found true files c.path-item.result = some_at _ _ files (c.loop-path.invariant.folder.same_files ∙ t) c.in_ok-file.ensures.told in
+            let found : file ≡ file_found true files c.path-item.result = some_at _ _ files (c.loop-path.invariant.folder.same_files ∙ t) c.in_ok-file.ensures.observed in
             (λ i. taken.4 files t i ++ found i ∷ []) ∙ sym (map_take (file_found true files) c.args.paths.now c.loop-path.path-index c.path-item.result c.loop-path-test.true c.path-item.is),
       );
       folder = onward _ _ _ _ _ (λ never. absurd never) (λ e. cc e) c.loop-path.invariant.folder c.in_ok-file.ensures.folder;
     }
 
-pub returns-in_err-file-clause-told : goal.returns-in_err-file-clause-told
-returns-in_err-file-clause-told g c = if_some _ _ (λ files t.
+pub returns-in_err-file-clause-observed : goal.returns-in_err-file-clause-observed
+returns-in_err-file-clause-observed g c = if_some _ _ (λ files t.
     let p = err_from_is_err_and c.from_residual.result c.from_residual.ensures.1 in
     let passed : c.from_residual.result ≡ Err (halt_of c.in_err-file.field-0.0) = p.1 ∙ ap Err p.2 in
     let Is = OnPart (λ (n : Counted). n.units.list) (AreUnitsOf c.args.places.now (map (file_found true files) c.args.paths.now)) in
     subst (Answers Is) (sym passed) (troubled Is c.in_err-file.field-0.0))
 
-pub returns-then-not-count-clause-told : goal.returns-then-not-count-clause-told
-returns-then-not-count-clause-told g c = if_some _ _ (λ files t.
+pub returns-then-not-count-clause-observed : goal.returns-then-not-count-clause-observed
+returns-then-not-count-clause-observed g c = if_some _ _ (λ files t.
     let f = file_found true files in
     let taken = c.loop-path.invariant.taken in
-    let found : c.in_ok-file.file ≡ f c.path-item.result = some_at _ _ files (c.loop-path.invariant.folder.same_files ∙ t) c.in_ok-file.ensures.told in
+    let found : c.in_ok-file.file ≡ f c.path-item.result = some_at _ _ files (c.loop-path.invariant.folder.same_files ∙ t) c.in_ok-file.ensures.observed in
     let split = map_split f c.args.paths.now c.loop-path.path-index c.path-item.result c.loop-path-test.true c.path-item.is in
     let all : map f c.args.paths.now ≡ (taken.0 ++ c.in_ok-file.file ∷ []) ++ split.0 = split.1 ∙ (λ i. (sym (taken.4 files t) i ++ sym found i ∷ []) ++ split.0) in
     let beyond : is_too_many (c.loop-path.totals.files + c.count.result) (c.loop-path.totals.bytes + c.size.result) ≡ true = not-false _ (sym c.if-not-count.ensures.fits) in
@@ -73,13 +73,13 @@ returns-then-not-count-clause-told g c = if_some _ _ (λ files t.
     subst (λ (h : Halt). Answers Is (Err h)) (sym c.in_ok-too_many.ensures)
     (units-beyond c.args.places.now (map f c.args.paths.now) taken.0 c.loop-path.units.list c.loop-path.totals taken.2 taken.1 c.in_ok-file.file split.0 all many))
 
-pub returns-in_err-units-clause-told : goal.returns-in_err-units-clause-told
-returns-in_err-units-clause-told g c = if_some _ _ (λ files t.
+pub returns-in_err-units-clause-observed : goal.returns-in_err-units-clause-observed
+returns-in_err-units-clause-observed g c = if_some _ _ (λ files t.
     let p = err_from_is_err_and c.from_residual-in_err-units.result c.from_residual-in_err-units.ensures.1 in
     let passed : c.from_residual-in_err-units.result ≡ Err c.in_err-units.field-0.0 = p.1 ∙ ap Err p.2 in
     let f = file_found true files in
     let taken = c.loop-path.invariant.taken in
-    let found : c.in_ok-file.file ≡ f c.path-item.result = some_at _ _ files (c.loop-path.invariant.folder.same_files ∙ t) c.in_ok-file.ensures.told in
+    let found : c.in_ok-file.file ≡ f c.path-item.result = some_at _ _ files (c.loop-path.invariant.folder.same_files ∙ t) c.in_ok-file.ensures.observed in
     let split = map_split f c.args.paths.now c.loop-path.path-index c.path-item.result c.loop-path-test.true c.path-item.is in
     let all : map f c.args.paths.now ≡ (taken.0 ++ c.in_ok-file.file ∷ []) ++ split.0 = split.1 ∙ (λ i. (sym (taken.4 files t) i ++ sym found i ∷ []) ++ split.0) in
     let few : is_too_many (c.loop-path.totals.files + c.count.result) (c.loop-path.totals.bytes + c.size.result) ≡ false = not-true _ (sym c.if-not-count.ensures.fits) in
@@ -96,8 +96,8 @@ returns-in_err-units-clause-folder g c =
     onward _ _ _ _ _ (λ e. absurd (never-passed Is c.in_err-units.field-0.0 c.from_residual-in_err-units.result c.in_err-units.ensures passed e)) (λ e. absurd (cc e))
     c.loop-path.invariant.folder c.in_ok-file.ensures.folder
 
-pub returns-clause-told : goal.returns-clause-told
-returns-clause-told g c = if_some _ _ (λ files t.
+pub returns-clause-observed : goal.returns-clause-observed
+returns-clause-observed g c = if_some _ _ (λ files t.
     let f = file_found true files in
     let taken = c.loop-path.invariant.taken in
     let read : taken.0 ≡ map f c.args.paths.now = taken.4 files t ∙ ap (map f) (take_all c.loop-path.path-index c.args.paths.now c.loop-path-test.false) in

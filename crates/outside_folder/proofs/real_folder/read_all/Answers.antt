@@ -19,14 +19,14 @@ loop-buffer-preserved g c =
     record {
       given = (
         so_far.0 ++ piece ∷ [],
-        GivesPieces-more (g.S.SystemCalls.gives c.args.system.now) c.args.file so_far.0 c.loop-buffer.file piece c.read_some.new.file so_far.1 c.in-Ok.ensures.told some,
+        GivesPieces-more (g.S.SystemCalls.gives c.args.system.now) c.args.file so_far.0 c.loop-buffer.file piece c.read_some.new.file so_far.1 c.in-Ok.ensures.observed some,
         c.in_ok-add_piece-in-Ok.ensures ∙ ap (λ front. front ++ piece) so_far.2 ∙ sym (joined-more so_far.0 piece),
       );
       still = c.loop-buffer.invariant.still;
     }
 
-pub returns-in-Err-clause-told : goal.returns-in-Err-clause-told
-returns-in-Err-clause-told g c =
+pub returns-in-Err-clause-observed : goal.returns-in-Err-clause-observed
+returns-in-Err-clause-observed g c =
     let so_far = c.loop-buffer.invariant.given in
     stopped (g.S.SystemCalls.gives c.args.system.now) c.args.path.now c.args.file so_far.0 c.loop-buffer.file c.in-Err.error c.read_some.new.file c.unread.result
-    so_far.1 c.in-Err.ensures.told c.unread.ensures.told c.unread.ensures.never_read c.unread.ensures.never_too_large
+    so_far.1 c.in-Err.ensures.observed c.unread.ensures.observed c.unread.ensures.never_read c.unread.ensures.never_too_large

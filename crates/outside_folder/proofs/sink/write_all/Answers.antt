@@ -42,7 +42,7 @@ returns-in_err-written-clause-cut g c =
     let text = c.args.text.now in
     let at = c.loop-written.written in
     let rest : take (length text - at) (drop at text) ≡ drop at text = grind (arith, common_steps) in
-    let took = rw rest at c.in_err-written.ensures.told in
+    let took = rw rest at c.in_err-written.ensures.observed in
     let some : 0 < length (drop at text) = omega (arith, length-drop at text, c.loop-written-test.true) in
     let so_far = c.loop-written.invariant.offered in
     on-err c.from_residual.result (IsCut g.S.Sink.takes c.args.sink.now text c.write.new.self)

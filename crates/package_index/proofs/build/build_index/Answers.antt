@@ -4,10 +4,10 @@ use Rattle.index_files.proofs.StepsInTurn.{quiet}
 use Rattle.common_laws.specs.Small.{if_some, some_at}
 use Rattle.package_index.proofs.build.build_index.Goals as goal
 
-pub returns-clause-told : goal.returns-clause-told
-returns-clause-told g c = if_some _ _ (λ files t.
+pub returns-clause-observed : goal.returns-clause-observed
+returns-clause-observed g c = if_some _ _ (λ files t.
     let made : IsFolderIndex c.args.env.now c.args.places.now c.args.extra.now c.args.locals.now files (Ok c.in_ok-index.index) =
-    (Ok c.in_ok-readings.readings, some_at _ _ files t c.in_ok-readings.ensures.told, (c.in_ok-index.index, c.in_ok-index.ensures, refl)) in
+    (Ok c.in_ok-readings.readings, some_at _ _ files t c.in_ok-readings.ensures.observed, (c.in_ok-index.index, c.in_ok-index.ensures, refl)) in
     made)
 
 pub returns-clause-sound : goal.returns-clause-sound

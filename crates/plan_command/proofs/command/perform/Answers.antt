@@ -18,9 +18,9 @@ pub returns-in-Ok-clause-replayed : goal.returns-in-Ok-clause-replayed
 returns-in-Ok-clause-replayed g c = λ options events slots files asked t.
     prints-this (MeansReplay options events slots files) c.in-Ok.output (c.in-Ok.ensures.replayed options events slots files asked t) _ _ _ c.print.ensures.prints
 
-pub returns-in-Ok-clause-told : goal.returns-in-Ok-clause-told
-returns-in-Ok-clause-told g c = λ files read.
-    prints-this (IsOutputOfCommand (Some c.args.command) files) c.in-Ok.output (c.in-Ok.ensures.told files read) _ _ _ c.print.ensures.prints
+pub returns-in-Ok-clause-observed : goal.returns-in-Ok-clause-observed
+returns-in-Ok-clause-observed g c = λ files read.
+    prints-this (IsOutputOfCommand (Some c.args.command) files) c.in-Ok.output (c.in-Ok.ensures.observed files read) _ _ _ c.print.ensures.prints
 
 pub returns-in-Ok-clause-one_text : goal.returns-in-Ok-clause-one_text
 returns-in-Ok-clause-one_text g c = prints-this (MayPrint (Some c.args.command)) c.in-Ok.output c.in-Ok.ensures.form _ _ _ c.print.ensures.prints

@@ -19,12 +19,12 @@ returns-in-Ok-clause-frozen g c = λ options files asked t. c.perform.ensures.fr
 pub returns-in-Ok-clause-replayed : goal.returns-in-Ok-clause-replayed
 returns-in-Ok-clause-replayed g c = λ options events slots files asked t. c.perform.ensures.replayed options events slots files (cc (sym c.in-Ok.ensures.command ∙ asked)) t
 
-pub returns-in-Ok-clause-told : goal.returns-in-Ok-clause-told
-returns-in-Ok-clause-told g c = λ files read.
+pub returns-in-Ok-clause-observed : goal.returns-in-Ok-clause-observed
+returns-in-Ok-clause-observed g c = λ files read.
     let words = c.args.words.now in
     let command = Some c.in-Ok.command in
     told-for words command c.in-Ok.ensures.command files _ _ _
-    (c.perform.ensures.told files (read-for words command c.in-Ok.ensures.command (g.F.Folder.tells c.args.folder.now) files read))
+    (c.perform.ensures.observed files (read-for words command c.in-Ok.ensures.command (g.F.Folder.tells c.args.folder.now) files read))
 
 pub returns-in-Ok-clause-one_text : goal.returns-in-Ok-clause-one_text
 returns-in-Ok-clause-one_text g c = text-for c.args.words.now (Some c.in-Ok.command) c.in-Ok.ensures.command _ _ _ c.perform.ensures.one_text

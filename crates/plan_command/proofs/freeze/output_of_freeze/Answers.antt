@@ -19,24 +19,24 @@ returns-in_ok-planned-in-Ok-clause-meaning g c = λ files t.
     let task = c.in-Ok.task in
     let output = c.in_ok-planned-in-Ok.field-0 in
     let before = c.in_ok-before-in-Ok.ensures ∙ ap old_freeze_text (some_at _ _ files t c.in-Ok.ensures.freeze) in
-    planned-means c.args.options files (frozen_form files) Least false task (some_at _ _ files t c.in-Ok.ensures.told) c.in-Ok.ensures.ready output
+    planned-means c.args.options files (frozen_form files) Least false task (some_at _ _ files t c.in-Ok.ensures.observed) c.in-Ok.ensures.ready output
     (subst (λ (b : Bytes). MeansTask Least false (Freeze b) task output) before c.in_ok-planned-in-Ok.ensures.headline)
 
-pub returns-in_ok-planned-in-Ok-clause-told : goal.returns-in_ok-planned-in-Ok-clause-told
-returns-in_ok-planned-in-Ok-clause-told g c = λ files t.
+pub returns-in_ok-planned-in-Ok-clause-observed : goal.returns-in_ok-planned-in-Ok-clause-observed
+returns-in_ok-planned-in-Ok-clause-observed g c = λ files t.
     let task = c.in-Ok.task in
     let output = c.in_ok-planned-in-Ok.field-0 in
     let before = c.in_ok-before-in-Ok.ensures ∙ ap old_freeze_text (some_at _ _ files t c.in-Ok.ensures.freeze) in
-    frozen-output c.args.options files task output (some_at _ _ files t c.in-Ok.ensures.told)
+    frozen-output c.args.options files task output (some_at _ _ files t c.in-Ok.ensures.observed)
     (subst (λ (b : Bytes). IsOutputOfTask Least false (Freeze b) task output) before c.in_ok-planned-in-Ok.ensures.output)
 
 pub returns-in_ok-planned-in-Ok-clause-form : goal.returns-in_ok-planned-in-Ok-clause-form
 returns-in_ok-planned-in-Ok-clause-form g c =
     of_task (Freeze c.in_ok-before-in-Ok.before) (c.in_ok-before-in-Ok.before, refl) c.in-Ok.task c.in-Ok.ensures.ready c.in_ok-planned-in-Ok.ensures.output
 
-pub returns-in-Err-clause-told : goal.returns-in-Err-clause-told
-returns-in-Err-clause-told g c = λ files t.
-    let told : Answers {A = Task} (IsTask c.args.options files) (Err c.in-Err.halt) = some_at _ _ files t c.in-Err.ensures.told in
+pub returns-in-Err-clause-observed : goal.returns-in-Err-clause-observed
+returns-in-Err-clause-observed g c = λ files t.
+    let told : Answers {A = Task} (IsTask c.args.options files) (Err c.in-Err.halt) = some_at _ _ files t c.in-Err.ensures.observed in
     IfOk-weaker c.halted.result _ _
     (λ output h. unfrozen-output c.args.options files h.0 output (subst (λ (halt : Halt). Answers {A = Task} (IsTask c.args.options files) (Err halt)) h.1 told) h.2)
     c.halted.ensures.refused

@@ -48,7 +48,7 @@ loop-path-preserved g c =
         taken.0 ++ record { path = c.in-Some.path; bytes = c.in-Bytes.bytes } ∷ [],
         c.in_ok-project-in-Bytes.ensures taken.0 taken.1,
         λ files t.
-            let found = some_at _ _ files (c.loop-path.invariant.folder.same_files ∙ t) c.in_ok-content.ensures.told in
+            let found = some_at _ _ files (c.loop-path.invariant.folder.same_files ∙ t) c.in_ok-content.ensures.observed in
             let is : Holds c.in-Bytes.bytes ≡ content_at files c.in-Some.path = sym c.in-Bytes.is ∙ found ∙ ap (content_at files) c.as_str.ensures in
             let goes = subst (GoesOn files project_files taken.0 c.loop-path.implicit c.loop-path.freeze) c.in-Some.ensures.steps.0 (taken.2 files t) in
             let text : ProjectText = record { path = c.in-Some.path; bytes = c.in-Bytes.bytes } in
@@ -58,21 +58,21 @@ loop-path-preserved g c =
       folder = onward _ _ _ _ _ (λ never. absurd never) (λ e. cc e) c.loop-path.invariant.folder c.in_ok-content.ensures.folder;
     }
 
-pub returns-in-TooLarge-clause-told : goal.returns-in-TooLarge-clause-told
-returns-in-TooLarge-clause-told g c = if_some _ _ (λ files t.
+pub returns-in-TooLarge-clause-observed : goal.returns-in-TooLarge-clause-observed
+returns-in-TooLarge-clause-observed g c = if_some _ _ (λ files t.
     let taken = c.loop-path.invariant.taken in
-    let found = some_at _ _ files (c.loop-path.invariant.folder.same_files ∙ t) c.in_ok-content.ensures.told in
+    let found = some_at _ _ files (c.loop-path.invariant.folder.same_files ∙ t) c.in_ok-content.ensures.observed in
     let is : TooLarge ≡ content_at files c.in-Some.path = sym c.in-TooLarge.is ∙ found ∙ ap (content_at files) c.as_str.ensures in
     let goes = subst (GoesOn files project_files taken.0 c.loop-path.implicit c.loop-path.freeze) c.in-Some.ensures.steps.0 (taken.2 files t) in
     subst (λ (h : Halt). Answers {A = FilesProject} (AreSaid c.args.env.now files) (Err h)) (sym c.too_large.ensures)
     (large_said c.args.env.now files taken.0 c.loop-path.implicit c.loop-path.freeze c.loop-path.project c.in-Some.path c.next.new.self.rest.items is goes taken.1))
 
-pub returns-in_err-project-in-Bytes-clause-told : goal.returns-in_err-project-in-Bytes-clause-told
-returns-in_err-project-in-Bytes-clause-told g c = if_some _ _ (λ files t.
+pub returns-in_err-project-in-Bytes-clause-observed : goal.returns-in_err-project-in-Bytes-clause-observed
+returns-in_err-project-in-Bytes-clause-observed g c = if_some _ _ (λ files t.
     let p = err_from_is_err_and c.from_residual-in_err-project-in-Bytes.result c.from_residual-in_err-project-in-Bytes.ensures.1 in
     let passed : c.from_residual-in_err-project-in-Bytes.result ≡ Err c.in_err-project-in-Bytes.field-0.0 = p.1 ∙ ap Err p.2 in
     let taken = c.loop-path.invariant.taken in
-    let found = some_at _ _ files (c.loop-path.invariant.folder.same_files ∙ t) c.in_ok-content.ensures.told in
+    let found = some_at _ _ files (c.loop-path.invariant.folder.same_files ∙ t) c.in_ok-content.ensures.observed in
     let is : Holds c.in-Bytes.bytes ≡ content_at files c.in-Some.path = sym c.in-Bytes.is ∙ found ∙ ap (content_at files) c.as_str.ensures in
     let goes = subst (GoesOn files project_files taken.0 c.loop-path.implicit c.loop-path.freeze) c.in-Some.ensures.steps.0 (taken.2 files t) in
     subst (Answers (AreSaid c.args.env.now files)) (sym passed)
@@ -93,8 +93,8 @@ returns-in_err-project-in-Bytes-clause-folder g c =
     absurd (subst (λ (h : Halt). Settles {A = Project} (IsProject c.args.env.now (taken.0 ++ text ∷ [])) (Err h)) failed halts))
     (λ e. absurd (cc e)) c.loop-path.invariant.folder c.in_ok-content.ensures.folder
 
-pub returns-clause-told : goal.returns-clause-told
-returns-clause-told g c = if_some _ _ (λ files t.
+pub returns-clause-observed : goal.returns-clause-observed
+returns-clause-observed g c = if_some _ _ (λ files t.
     let taken = c.loop-path.invariant.taken in
     let none : c.loop-path.path-iterator.rest.items ≡ [] = nil_from_length _ (sym c.loop-path.path-iterator.rest.ok.0 ∙ c.in-None.ensures.steps.0) in
     let goes = subst (GoesOn files project_files taken.0 c.loop-path.implicit c.loop-path.freeze) none (taken.2 files t) in (

@@ -6,8 +6,8 @@ use Rattle.project_paths.specs.Places.{below}
 use Rattle.project_paths.specs.Spots.{seen}
 use Rattle.project_paths.proofs.spots.all_below.Goals as goal
 
-pub returns-clause-told : goal.returns-clause-told
-returns-clause-told g c = if_some _ (g.F.Folder.tells c.args.folder.now) (λ files t tree.
+pub returns-clause-observed : goal.returns-clause-observed
+returns-clause-observed g c = if_some _ (g.F.Folder.tells c.args.folder.now) (λ files t tree.
     let seen_so_far = flat_map (seen files) c.loop-spot.found in
     let none : c.loop-spot.spot-iterator.rest.items ≡ [] = nil_from_length _ (sym c.loop-spot.spot-iterator.rest.ok.0 ∙ c.in-None.ensures.steps.0) in
     sym (append-nil seen_so_far) ∙ ap (λ rest. seen_so_far ++ flat_map (below files c.args.pattern.now) (flat_map (seen files) rest)) (sym none) ∙ c.loop-spot.invariant.told files t tree)
