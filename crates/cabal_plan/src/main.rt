@@ -42,7 +42,8 @@ fn program<R: AllocGlobal, F: Folder, S: Sink, E: Sink>(
     errors: &mut E,
 ) -> ExitCode
     ensures { IsExit (λ args. map string_bytes (into_iter_items args)) F.tells F.faults args folder.old folder.new
-        (sink_state S.bytes S.faults out.old) (sink_state S.bytes S.faults out.new) (sink_state E.bytes E.faults errors.old)
+        (sink_state S.bytes S.faults out.old) (sink_state S.bytes S.faults out.new)
+        (sink_state E.bytes E.faults errors.old)
         (sink_state E.bytes E.faults errors.new)
         (exit_status result) }
 {
@@ -68,7 +69,8 @@ fn status_of<F: Folder, S: Sink>(
 
 // Words that the system can't give as text have no reading.
 fn status_without_words<S: Sink>(kind: ErrorKind, out: &mut S) -> Status
-    ensures { IsEndWithoutWords kind (sink_state S.bytes S.faults out.old) (sink_state S.bytes S.faults out.new) result }
+    ensures { IsEndWithoutWords kind (sink_state S.bytes S.faults out.old)
+        (sink_state S.bytes S.faults out.new) result }
 {
     if kind == ErrorKind::OutOfMemory {
         Status::NoMemory
@@ -138,7 +140,8 @@ fn current_folder<R: Files + AllocGlobal + Clone + Drop>(
 
 // Writes the line of a failure. If that write fails too, only the exit status reports the failure.
 fn say<E: Sink>(status: Status, errors: &mut E)
-    ensures { IsLineWritten (failure_of status) (sink_state E.bytes E.faults errors.old) (sink_state E.bytes E.faults errors.new) }
+    ensures { IsLineWritten (failure_of status) (sink_state E.bytes E.faults errors.old)
+        (sink_state E.bytes E.faults errors.new) }
 {
     if let Some(line) = failure_of(status) {
         let _ = write_all(errors, line.as_bytes());

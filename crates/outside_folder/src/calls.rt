@@ -71,7 +71,8 @@ pub fn read_content<F: Folder>(
     path: &str,
     folder: &mut F,
 ) -> Result<Content, Trouble>
-    ensures observed { IfSome (F.tells folder.old) (λ files. IfOk result (λ content. content ≡ content_at files path.now)) }
+    ensures observed { IfSome (F.tells folder.old)
+        (λ files. IfOk result (λ content. content ≡ content_at files path.now)) }
     ensures within { IfOk result IsWithin }
     ensures tree { IfSome (F.tells folder.old) (λ files. IsTrue (is_tree files)) }
     ensures folder { Leaves F.tells F.faults folder.old folder.new (IsErrOf result Trouble.Failed) }

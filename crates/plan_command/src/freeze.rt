@@ -31,7 +31,8 @@ pub(crate) fn output_of_freeze<F: Folder>(
     folder: &mut F,
 ) -> Result<Output, Trouble>
     ensures meaning { (files : Files) → F.tells folder.old ≡ Some files → IfOk result (MeansFreeze options files) }
-    ensures observed { (files : Files) → F.tells folder.old ≡ Some files → IfOk result (IsOutputOfFreeze options files) }
+    ensures observed { (files : Files) → F.tells folder.old ≡ Some files
+        → IfOk result (IsOutputOfFreeze options files) }
     ensures form { IfOk result (MayPrint (Some (Freeze options))) }
     ensures made { IfOk result (λ output. HasOutput output.status) }
     ensures read { IfOk result (λ output. output.status ≢ Status.Usage) }
