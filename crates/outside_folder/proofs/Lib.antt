@@ -1,5 +1,5 @@
 pub mod Appending
-pub mod Leaving
+pub mod CallSequences
 pub mod Listings
 pub mod Offering
 pub mod Orders
@@ -7,4 +7,4 @@ pub mod Pairs
 pub mod Places
 pub mod Prefixes
 pub mod Reading
-pub mod Trees
+pub mod FileTrees

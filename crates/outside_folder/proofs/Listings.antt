@@ -11,7 +11,7 @@ use Rattle.fallible_values.specs.declared.text.Text.{Text}
 use Rattle.outside_folder.specs.Files.{Bytes, first_name, inside, is_under, name_in, names_in, slash, with_name}
 use Rattle.outside_folder.specs.MemFile.{told, Dirs, Listed, AddsAt, IsFront, entries_of, names_at}
 use Rattle.outside_folder.specs.declared.mem_folder.MemFile.{MemFile}
-use Rattle.outside_folder.proofs.Trees.{front_under}
+use Rattle.outside_folder.proofs.FileTrees.{front_under}
 
 fold_push : (dir : Bytes) (files : List MemFile) (f : MemFile) (names : List (Bytes × Bool)) →
     fold (λ names file. with_name names (name_in dir file.0)) names (told (files ++ f ∷ [])) ≡ with_name (fold (λ names file. with_name names (name_in dir file.0)) names (told files)) (name_in dir f.path)

@@ -12,7 +12,7 @@ use Rattle.std.proofs.lemmas.List.Splits.{slice_split_at, slice_split_none}
 use Rattle.common_laws.specs.Small.{same-is, tail_same}
 use Rattle.plan_types.specs.Bytes.{same_text}
 use Rattle.outside_folder.specs.Files.{Bytes, Files, clashes, is_path, is_tree, is_under, slash}
-use Rattle.outside_folder.proofs.Trees.{front_under}
+use Rattle.outside_folder.proofs.FileTrees.{front_under}
 use Rattle.plan_generate.specs.Text.{name, version_path}
 use Rattle.plan_generate.specs.Generated.{generated, main_file, package_files, version_file}
 use Rattle.plan_generate.proofs.Names.{IsInside, digits-inside, name-inside, name-length, name-tells}

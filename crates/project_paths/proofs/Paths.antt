@@ -10,7 +10,7 @@ use Rattle.std.proofs.lemmas.List.{drop_at, drop_more, take-append-drop, take_al
 use Rattle.std.proofs.lemmas.List.Sums.{passes_at_first}
 use Rattle.std.proofs.lemmas.Slice.Eq.{bytes_eq-Decides}
 use Rattle.outside_folder.specs.Files.{Bytes, after, first_name, inside, is_under, name_in, slash}
-use Rattle.outside_folder.proofs.Trees.{front_under}
+use Rattle.outside_folder.proofs.FileTrees.{front_under}
 use Rattle.project_paths.specs.Places.{path_in}
 use Rattle.project_paths.specs.Spots.{is_plain}
 

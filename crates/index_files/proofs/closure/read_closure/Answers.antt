@@ -1,6 +1,6 @@
 use Rattle.std.proofs.Common.{◌≡◌, ◌<◌, ◌≤◌, ◌-◌, ◌^◌, ◌++◌, ◌∷◌, [], List, length, length-append, map, get_or, None, sym, ◌∙◌, ap, subst, arith}
 use Rattle.std.specs.Option.{option_map}
-use Rattle.outside_folder.proofs.Leaving.{onward, still}
+use Rattle.outside_folder.proofs.CallSequences.{onward, still}
 use Rattle.plan_types.specs.declared.dependency.Named.{Named}
 use Rattle.index_files.specs.Closure.{roots}
 use Rattle.index_files.specs.Ground.{ground_of}

@@ -1,7 +1,7 @@
 use Rattle.std.proofs.Common.{◌≡◌, List, [], ◌∷◌, ◌++◌, true, map, Ok, Err, ◌∙◌, ap, refl, subst, sym}
 use Rattle.std.proofs.lemmas.List.{take_all}
 use Rattle.std.proofs.lemmas.Result.{err_from_is_err_and}
-use Rattle.outside_folder.proofs.Leaving.{onward, still}
+use Rattle.outside_folder.proofs.CallSequences.{onward, still}
 use Rattle.outside_folder.specs.Calls.{halt_of}
 use Rattle.index_files.specs.File.{file_found}
 use Rattle.index_files.specs.InTurn.{OnPart, Steps}

@@ -2,7 +2,7 @@ use Rattle.std.proofs.Common.{◌≡◌, ◌+◌, List, [], ◌∷◌, ◌++◌,
 use Rattle.std.proofs.lemmas.Bool.{not-false, not-true}
 use Rattle.std.proofs.lemmas.List.{take_all}
 use Rattle.std.proofs.lemmas.Result.{err_from_is_err_and}
-use Rattle.outside_folder.proofs.Leaving.{onward, still}
+use Rattle.outside_folder.proofs.CallSequences.{onward, still}
 use Rattle.outside_folder.specs.Calls.{halt_of}
 use Rattle.plan_types.specs.Refusal.{Answers}
 use Rattle.plan_types.specs.declared.refusal.Halt.{Halt}

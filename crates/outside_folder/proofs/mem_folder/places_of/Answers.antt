@@ -3,7 +3,7 @@ use Rattle.std.specs.BTreeMap.{get_by_text}
 use Rattle.std.specs.Prelude.{is_some, string_bytes}
 use Rattle.std.proofs.lemmas.Map.Text.{btree_map_updates_text}
 use Rattle.outside_folder.specs.MemFile.{AreDistinct, Placed}
-use Rattle.outside_folder.proofs.Trees.{contained, table_more}
+use Rattle.outside_folder.proofs.FileTrees.{contained, table_more}
 use Rattle.outside_folder.proofs.mem_folder.places_of.Goals as goal
 
 pub returns-then-is_some : goal.returns-then-is_some

@@ -1,7 +1,7 @@
 use Rattle.std.proofs.Common.{◌≡◌, ◌⊎◌, true, false, sym, subst, ap, ◌∙◌, arith}
 use Rattle.outside_folder.specs.Files.{is_path}
 use Rattle.outside_folder.specs.MemFile.{IsFree, IsUnderFile}
-use Rattle.outside_folder.proofs.Trees.{fits_more, fit_tree, bad_file}
+use Rattle.outside_folder.proofs.FileTrees.{fits_more, fit_tree, bad_file}
 use Rattle.outside_folder.proofs.mem_folder.stand_apart.Goals as goal
 
 pub loop-file-preserved : goal.loop-file-preserved

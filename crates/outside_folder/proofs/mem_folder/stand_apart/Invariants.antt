@@ -1,4 +1,4 @@
-use Rattle.outside_folder.proofs.Trees.{Fits}
+use Rattle.outside_folder.proofs.FileTrees.{Fits}
 use Rattle.outside_folder.proofs.mem_folder.stand_apart.Given as goal
 
 abbrev pub invariant-loop-file : goal.invariant-loop-file

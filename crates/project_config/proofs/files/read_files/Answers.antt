@@ -1,7 +1,7 @@
 use Rattle.std.proofs.Common.{◌≡◌, false, [], ◌∷◌, ◌++◌, Option, None, Ok, Err, refl, ap, subst, sym, ◌∙◌}
 use Rattle.std.proofs.lemmas.List.{nil_from_length}
 use Rattle.std.proofs.lemmas.Result.{err_from_is_err_and}
-use Rattle.outside_folder.proofs.Leaving.{onward, still}
+use Rattle.outside_folder.proofs.CallSequences.{onward, still}
 use Rattle.outside_folder.specs.Calls.{IsWithin as IsReadable, content_at}
 use Rattle.outside_folder.specs.Files.{Bytes}
 use Rattle.outside_folder.specs.declared.calls.Content.{Content}

@@ -1,4 +1,4 @@
--- When files make a tree.
+-- Shared: when files make a tree.
 use Rattle.std.proofs.Common.{◌≡◌, ◌≢◌, ◌⊎◌, inl, inr, ⊎_elim, ℕ, zero, suc, ◌+◌, ◌<◌, Bool, true, false, not, cond, ◌&&◌, ◌||◌, List, [], ◌∷◌, ◌++◌, length, take, drop, get_or, Option, Some, None, refl, sym, subst, ap, ◌∙◌, arith, length-take, length-drop}
 use Rattle.std.specs.Prelude.{is_some, option_and_then}
 use Rattle.std.proofs.Math.Seq.{drop-cons}

@@ -1,4 +1,4 @@
--- What calls one after the other leave of a folder.
+-- Shared: what calls one after the other leave of a folder.
 use Rattle.std.proofs.Common.{◌≡◌, ℕ, Option, refl, ◌∙◌, subst, arith}
 use Rattle.outside_folder.specs.Calls.{Leaves}
 use Rattle.outside_folder.specs.Faults.{Rose}
