@@ -9,7 +9,7 @@ returns g c =
     let run = c.run.ensures in
     subst (λ words. IsRunOver g.F.Folder.tells g.F.Folder.faults words c.args.folder.now c.run.new.folder (sink_state g.S.Sink.bytes g.S.Sink.faults c.args.out.now) (sink_state g.S.Sink.bytes g.S.Sink.faults c.run.new.out) c.run.result) c.as_slice.ensures
     (record {
-      told = run.told;
+      told = run.observed;
       one_text = run.one_text;
       in_order = run.in_order;
       usage_alone = run.usage;

@@ -15,7 +15,7 @@ loop-written-preserved g c =
     let rest : take (length text - at) (drop at text) ≡ drop at text = grind (arith, common_steps) in
     let counted = rw rest at wrote.count in
     let went = rw rest at wrote.ok in
-    let took = rw rest at wrote.told in
+    let took = rw rest at wrote.observed in
     let some : 0 < length (drop at text) = omega (arith, length-drop at text, c.loop-written-test.true) in
     let so_far = c.loop-written.invariant.offered in
     record {
