@@ -1,4 +1,4 @@
--- Membership is constant between the turns of a range, and tests of its relaxed range are so too.
+-- Membership is constant between the bounds of a range, and tests of its relaxed range are so too.
 use Rattle.std.proofs.Common.{◌≡◌, ℕ, ◌<◌, ◌≤◌, Bool, true, false, List, [], ◌∷◌, ◌++◌, refl, sym, ap, ◌∙◌, inl, inr, arith, append_assoc}
 use Rattle.std.specs.List.{Contains}
 use Rattle.std.proofs.lemmas.Bool.{false≢true, cases_lt}
@@ -14,7 +14,7 @@ use Rattle.version_range.specs.Cuts.{HasNumbers, IsRelaxed, IsSplit, Relaxes, So
 use Rattle.version_range.proofs.RisingEnds.{below_down, below_up, not_below_back, not_itself}
 use Rattle.solver_index.specs.Before.{before}
 use Rattle.solver_index.specs.Blocks.{IsBlock, version_at}
-use Rattle.solver_index.specs.TurningPlaces.{AreTurns, AreTurnsBut, IsConstantWhere, IsConstant, HasNoTurn, IsOperator}
+use Rattle.solver_index.specs.RangeBounds.{AreBounds, AreBoundsBut, IsConstantWhere, IsConstant, HasNoBound, IsOperator}
 use Rattle.solver_index.proofs.ListLaws.{false-back}
 use Rattle.common_laws.specs.Lists.{contains-head, contains-tail, contains-none, contains-cases}
 
@@ -49,8 +49,8 @@ module _ (r : Range) (is : IsOperator r) (entries : List Entry) (from to first l
       let none = left a la (omega (arith, ab, bt)) in
       false-back (members r u) (members r (v a)) (λ h. is.down (v a) u na n (reached a (omega (arith, middle, la)) (omega (arith, ab, bt))) behind h) none ∙ sym none
 
-  pub operator-calm : (a b : ℕ) → from ≤ a → a ≤ b → b < to → HasNoTurn (first ∷ last ∷ []) a b → IsConstant (members r) (v a) (v b)
-  operator-calm a b la ab bt free =
+  pub operator-constant : (a b : ℕ) → from ≤ a → a ≤ b → b < to → HasNoBound (first ∷ last ∷ []) a b → IsConstant (members r) (v a) (v b)
+  operator-constant a b la ab bt free =
       elim (cases_lt a first) [
         | inl before_first ↦
             let both : b < first = free first (contains-head first (last ∷ [])) before_first in
@@ -70,62 +70,62 @@ module _ (r : Range) (is : IsOperator r) (entries : List Entry) (from to first l
         | inr k ↦ elim (contains-cases last [] t k) [ inl e ↦ (omega (arith, e, low, middle), omega (arith, e, high)) | inr none ↦ absurd (contains-none t none) ]
       ]
 
-  pub operator-turns : (old one new : List ℕ) → one ≡ old ++ first ∷ [] → new ≡ one ++ last ∷ [] → AreTurns (members r) entries from to old new
-  operator-turns old one new e f = record {
+  pub operator-bounds : (old one new : List ℕ) → one ≡ old ++ first ∷ [] → new ≡ one ++ last ∷ [] → AreBounds (members r) entries from to old new
+  operator-bounds old one new e f = record {
     more = first ∷ last ∷ [];
     extends = f ∙ ap (λ l. l ++ last ∷ []) e ∙ append_assoc old (first ∷ []) (last ∷ []);
     within = operator-within;
-    calm = operator-calm;
+    constant = operator-constant;
   }
 
 -- ---- joined ranges
 
-free-left : (xs ys : List ℕ) (a b : ℕ) → HasNoTurn (xs ++ ys) a b → HasNoTurn xs a b
+free-left : (xs ys : List ℕ) (a b : ℕ) → HasNoBound (xs ++ ys) a b → HasNoBound xs a b
 free-left xs ys a b free t h = free t (Contains-append_left xs ys t h)
 
-free-right : (xs ys : List ℕ) (a b : ℕ) → HasNoTurn (xs ++ ys) a b → HasNoTurn ys a b
+free-right : (xs ys : List ℕ) (a b : ℕ) → HasNoBound (xs ++ ys) a b → HasNoBound ys a b
 free-right xs ys a b free t h = free t (Contains-append_right xs ys t h)
 
-join-calm : (joint : Connective) (range left right : Range) → IsSplit joint range left right → (v w : Version) → IsConstant (members left) v w → IsConstant (members right) v w → IsConstant (members range) v w
-join-calm joint range left right split v w l r u n behind le =
+join-constant : (joint : Connective) (range left right : Range) → IsSplit joint range left right → (v w : Version) → IsConstant (members left) v w → IsConstant (members right) v w → IsConstant (members range) v w
+join-constant joint range left right split v w l r u n behind le =
     split.members_are u ∙ (λ i. join joint (l u n behind le i) (r u n behind le i)) ∙ sym (split.members_are v)
 
 module _ (has : Version → Bool) (entries : List Entry) (from to : ℕ) where
-  pub turns-start : (old : List ℕ) → AreTurnsBut has has entries from to old old
-  turns-start old = record { more = []; extends = sym (append-nil old); within = λ t h. absurd (contains-none t h); calm = λ a b la ab bt free c. c }
+  pub bounds-start : (old : List ℕ) → AreBoundsBut has has entries from to old old
+  bounds-start old = record { more = []; extends = sym (append-nil old); within = λ t h. absurd (contains-none t h); constant = λ a b la ab bt free c. c }
 
   both-within : (xs ys : List ℕ) → ((t : ℕ) → Contains xs t → (from ≤ t) × (t ≤ to)) → ((t : ℕ) → Contains ys t → (from ≤ t) × (t ≤ to)) → (t : ℕ) → Contains (xs ++ ys) t → (from ≤ t) × (t ≤ to)
   both-within xs ys l r t h = elim (Contains-append_cases xs ys t h) [ inl a ↦ l t a | inr b ↦ r t b ]
 
-  pub turns-step : (joint : Connective) (range left right : Range) (old one new : List ℕ) → IsSplit joint range left right → AreTurnsBut has (members range) entries from to old one
-      → AreTurns (members right) entries from to one new → AreTurnsBut has (members left) entries from to old new
-  turns-step joint range left right old one new split was turned = record {
-    more = was.more ++ turned.more;
-    extends = turned.extends ∙ ap (λ l. l ++ turned.more) was.extends ∙ append_assoc old was.more turned.more;
-    within = both-within was.more turned.more was.within turned.within;
-    calm = λ a b la ab bt free c.
-        was.calm a b la ab bt (free-left was.more turned.more a b free)
-        (join-calm joint range left right split (version_at entries a) (version_at entries b) c (turned.calm a b la ab bt (free-right was.more turned.more a b free)));
+  pub bounds-step : (joint : Connective) (range left right : Range) (old one new : List ℕ) → IsSplit joint range left right → AreBoundsBut has (members range) entries from to old one
+      → AreBounds (members right) entries from to one new → AreBoundsBut has (members left) entries from to old new
+  bounds-step joint range left right old one new split was bounded = record {
+    more = was.more ++ bounded.more;
+    extends = bounded.extends ∙ ap (λ l. l ++ bounded.more) was.extends ∙ append_assoc old was.more bounded.more;
+    within = both-within was.more bounded.more was.within bounded.within;
+    constant = λ a b la ab bt free c.
+        was.constant a b la ab bt (free-left was.more bounded.more a b free)
+        (join-constant joint range left right split (version_at entries a) (version_at entries b) c (bounded.constant a b la ab bt (free-right was.more bounded.more a b free)));
   }
 
-  pub turns-end : (rest : Version → Bool) (old one new : List ℕ) → AreTurnsBut has rest entries from to old one → AreTurns rest entries from to one new → AreTurns has entries from to old new
-  turns-end rest old one new was turned = record {
-    more = was.more ++ turned.more;
-    extends = turned.extends ∙ ap (λ l. l ++ turned.more) was.extends ∙ append_assoc old was.more turned.more;
-    within = both-within was.more turned.more was.within turned.within;
-    calm = λ a b la ab bt free.
-        was.calm a b la ab bt (free-left was.more turned.more a b free) (turned.calm a b la ab bt (free-right was.more turned.more a b free));
+  pub bounds-end : (rest : Version → Bool) (old one new : List ℕ) → AreBoundsBut has rest entries from to old one → AreBounds rest entries from to one new → AreBounds has entries from to old new
+  bounds-end rest old one new was bounded = record {
+    more = was.more ++ bounded.more;
+    extends = bounded.extends ∙ ap (λ l. l ++ bounded.more) was.extends ∙ append_assoc old was.more bounded.more;
+    within = both-within was.more bounded.more was.within bounded.within;
+    constant = λ a b la ab bt free.
+        was.constant a b la ab bt (free-left was.more bounded.more a b free) (bounded.constant a b la ab bt (free-right was.more bounded.more a b free));
   }
 
 -- ---- relaxed ranges follow
 
-module _ (newer older : Bool) (has f : Version → Bool) (relaxes : Relaxes newer older has f) (v w : Version) (nv : HasNumbers v) (nw : HasNumbers w) (le : is_below w v ≡ false) (calm : IsConstant has v w) where
+module _ (newer older : Bool) (has f : Version → Bool) (relaxes : Relaxes newer older has f) (v w : Version) (nv : HasNumbers v) (nw : HasNumbers w) (le : is_below w v ≡ false) (constant : IsConstant has v w) where
   same : has w ≡ has v
-  same = calm w nw le (not_itself w)
+  same = constant w nw le (not_itself w)
 
   -- where neither end is a member, none between them is
   none-between : has v ≡ false → (u : Version) → HasNumbers u → has u ≡ true → is_below u v ≡ false → is_below w u ≡ false → ⊥
-  none-between none u n m behind below = false≢true (sym (calm u n behind below ∙ none) ∙ m)
+  none-between none u n m behind below = false≢true (sym (constant u n behind below ∙ none) ∙ m)
 
   under : has v ≡ false → SomeBelow has w → SomeBelow has v
   under none (u, n, m, h) =
@@ -165,11 +165,11 @@ module _ (newer older : Bool) (has f : Version → Bool) (relaxes : Relaxes newe
       ] refl
 
 pub relaxed-follows : (newer older : Bool) (has f : Version → Bool) → Relaxes newer older has f → IsConstantWhere has f
-relaxed-follows newer older has f relaxes v w nv nw le calm = relaxed-same newer older has f relaxes v w nv nw le calm
+relaxed-follows newer older has f relaxes v w nv nw le constant = relaxed-same newer older has f relaxes v w nv nw le constant
 
 pub itself-follows : (has : Version → Bool) → IsConstantWhere has has
-itself-follows has v w nv nw le calm = sym (calm w nw le (not_itself w))
+itself-follows has v w nv nw le constant = sym (constant w nw le (not_itself w))
 
 -- a test equal on versions with numbers follows membership too
 pub same-follows : (has f g : Version → Bool) → ((v : Version) → HasNumbers v → g v ≡ f v) → IsConstantWhere has f → IsConstantWhere has g
-same-follows has f g is h v w nv nw le calm = is v nv ∙ h v w nv nw le calm ∙ sym (is w nw)
+same-follows has f g is h v w nv nw le constant = is v nv ∙ h v w nv nw le constant ∙ sym (is w nw)

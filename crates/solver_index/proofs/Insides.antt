@@ -18,7 +18,7 @@ use Rattle.solver_index.specs.Allowed.{allowed_for}
 use Rattle.solver_index.specs.AllowedVersions.{allowed_versions}
 use Rattle.solver_index.specs.Places.{entry_at, no_entry, places, rising}
 use Rattle.solver_index.specs.Sources.{AreAllowed}
-use Rattle.solver_index.specs.TurningPlaces.{IsConstantWhere}
+use Rattle.solver_index.specs.RangeBounds.{IsConstantWhere}
 use Rattle.solver_index.specs.Versions.{body_has_versions, entries_have_versions, entry_has_versions, packages_have_versions}
 use Rattle.solver_index.proofs.Atoms.{has-numbers}
 use Rattle.solver_index.proofs.Calm.{itself-follows, relaxed-follows, same-follows}

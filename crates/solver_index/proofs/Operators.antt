@@ -13,7 +13,7 @@ use Rattle.version_range.proofs.Intervals.{up_to}
 use Rattle.version_range.proofs.RelaxedCuts.{least}
 use Rattle.solver_index.specs.Before.{before, before_step, is_operator, operator_step}
 use Rattle.solver_index.specs.AllowedVersions.{least_version, next_version}
-use Rattle.solver_index.specs.TurningPlaces.{IsOperator}
+use Rattle.solver_index.specs.RangeBounds.{IsOperator}
 use Rattle.solver_index.proofs.Atoms.{IsInterval, above-interval, any-interval, at_least-interval, at_most-interval, below-interval, equal-interval, major-interval, prefix-interval}
 
 abbrev Claim : Range → Type 0

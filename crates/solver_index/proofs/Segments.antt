@@ -7,7 +7,7 @@ use Rattle.std.proofs.lemmas.List.{append-nil}
 use Rattle.std.proofs.lemmas.List.Elements.{filter-append}
 use Rattle.std.proofs.lemmas.List.{get_or_default}
 use Rattle.solver_index.specs.Places.{between, rising}
-use Rattle.solver_index.specs.TurningPlaces.{HasNoTurn}
+use Rattle.solver_index.specs.RangeBounds.{HasNoBound}
 use Rattle.solver_index.proofs.ListLaws.{between-has, between-join, between-none, rising-between}
 use Rattle.common_laws.specs.Lists.{filter-all, filter-nothing}
 
@@ -31,18 +31,18 @@ module _ (test : ℕ → Bool) where
   pub halves-joined : (n r : ℕ) → r ≤ n → ([] ++ filter test (between 0 r)) ++ filter test (between r n) ≡ filter test (rising n)
   halves-joined n r h = segments-joined [] 0 r n (omega arith) h ∙ ap (filter test) (sym (rising-between n))
 
--- no turn lies in a segment that ends at the next one
-pub free-segment : (turns : List ℕ) (index first i : ℕ) → IsNonDecreasing turns → index < length turns → ((k : ℕ) → k < index → get_or turns k 0 ≤ first) → i < get_or turns index 0 → HasNoTurn turns first i
-free-segment turns index first i rise here earlier less t (k, below, is) after =
-    let same : get_or turns k 0 ≡ t = get_or_default turns k 0 t below ∙ is in
+-- no bound lies in a segment that ends at the next one
+pub free-segment : (bounds : List ℕ) (index first i : ℕ) → IsNonDecreasing bounds → index < length bounds → ((k : ℕ) → k < index → get_or bounds k 0 ≤ first) → i < get_or bounds index 0 → HasNoBound bounds first i
+free-segment bounds index first i rise here earlier less t (k, below, is) after =
+    let same : get_or bounds k 0 ≡ t = get_or_default bounds k 0 t below ∙ is in
     elim (cases_lt k index) [
       | inl before ↦ let least = earlier k before in absurd (omega (arith, least, same, after))
       | inr behind ↦ let most = rise index k 0 behind below in omega (arith, most, same, less)
     ]
 
--- no turn lies in the segment behind the last turn
-pub free-end : (turns : List ℕ) (first i : ℕ) → ((k : ℕ) → k < length turns → get_or turns k 0 ≤ first) → HasNoTurn turns first i
-free-end turns first i earlier t (k, below, is) after =
-    let same : get_or turns k 0 ≡ t = get_or_default turns k 0 t below ∙ is in
+-- no bound lies in the segment behind the last bound
+pub free-end : (bounds : List ℕ) (first i : ℕ) → ((k : ℕ) → k < length bounds → get_or bounds k 0 ≤ first) → HasNoBound bounds first i
+free-end bounds first i earlier t (k, below, is) after =
+    let same : get_or bounds k 0 ≡ t = get_or_default bounds k 0 t below ∙ is in
     let least = earlier k below in
     absurd (omega (arith, least, same, after))

@@ -12,4 +12,4 @@ pub mod Versions
 pub mod Sources
 pub mod Before
 pub mod Blocks
-pub mod TurningPlaces
+pub mod RangeBounds

@@ -7,11 +7,11 @@ ghost use Rattle.version_range.specs.Cuts.{HasNumbers, inside};
 ghost use Rattle.version_range.specs.Version.{has_versions};
 ghost use Rattle.solver_index.specs.Blocks.{AreInBlocks, IsBlock, version_at};
 ghost use Rattle.solver_index.specs.Places.{between, places};
-ghost use Rattle.solver_index.specs.TurningPlaces.{AreUniform, IsConstantWhere, IsUniform};
+ghost use Rattle.solver_index.specs.RangeBounds.{AreUniform, IsConstantWhere, IsUniform};
 
 use crate::blocks::{Test, first_without};
 use crate::place_runs::PlaceRuns;
-use crate::turning_places::push_turns;
+use crate::range_bounds::push_bounds;
 use plan_types::{Entry, List, NoMemory, Range};
 use std::alloc::Global;
 use version_range::Cuts;
@@ -53,33 +53,33 @@ fn push_block(
     ensures { OnOk result (found.new ≡ found.old ++ filter (λ i. inside cuts.now (version_at entries.now i))
         (between from to)) }
 {
-    let mut turns = List::new(alloc);
-    push_turns(&mut turns, range, entries, from, to)?;
-    let mut turns = turns.into_vec();
-    turns.sort_unstable();
-    push_segments(found, cuts, turns.as_slice(), entries, from, to)
+    let mut bounds = List::new(alloc);
+    push_bounds(&mut bounds, range, entries, from, to)?;
+    let mut bounds = bounds.into_vec();
+    bounds.sort_unstable();
+    push_segments(found, cuts, bounds.as_slice(), entries, from, to)
 }
 
 fn push_segments(
     found: &mut PlaceRuns,
     cuts: &Cuts,
-    turns: &[u64],
+    bounds: &[u64],
     entries: &[Entry],
     from: usize,
     to: usize,
 ) -> Result<(), NoMemory>
     requires low { from ≤ to }
     requires high { to ≤ length entries.now }
-    requires rising { IsNonDecreasing turns.now }
-    requires within { (t : ℕ) → Contains turns.now t → (from ≤ t) × (t ≤ to) }
-    requires uniform { AreUniform cuts.now turns.now entries.now from to }
+    requires rising { IsNonDecreasing bounds.now }
+    requires within { (t : ℕ) → Contains bounds.now t → (from ≤ t) × (t ≤ to) }
+    requires uniform { AreUniform cuts.now bounds.now entries.now from to }
     ensures { OnOk result (found.new ≡ found.old ++ filter (λ i. inside cuts.now (version_at entries.now i))
         (between from to)) }
 {
     let mut first = from as u64;
-    for turn in turns {
-        push_segment(found, cuts, entries, first, *turn)?;
-        first = *turn;
+    for bound in bounds {
+        push_segment(found, cuts, entries, first, *bound)?;
+        first = *bound;
     }
     push_segment(found, cuts, entries, first, to as u64)
 }

@@ -13,9 +13,9 @@ mod offers;
 mod orders;
 mod place_runs;
 mod places;
+mod range_bounds;
 mod sources;
 mod tables;
-mod turning_places;
 mod units;
 mod wishes;
 

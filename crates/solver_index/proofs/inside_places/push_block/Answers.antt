@@ -4,7 +4,7 @@ use Rattle.std.specs.List.Sorted.{IsNonDecreasing, IsPermutation}
 use Rattle.std.proofs.lemmas.List.Sorted.{Contains-permutation, IsNonDecreasingBy-from_sort, IsPermutation-sym}
 use Rattle.solver_index.proofs.inside_places.push_block.Goals as goal
 
--- the sorted turns have the same members
+-- the sorted bounds have the same members
 record AreSorted (more sorted : List ℕ) : Type 0 where
   there : (t : ℕ) → Contains more t → Contains sorted t
   back : (t : ℕ) → Contains sorted t → Contains more t
@@ -22,16 +22,16 @@ push_segments-requires-clause-rising c = subst IsNonDecreasing (sym c.as_slice.e
 
 pub push_segments-requires-clause-within : goal.push_segments-requires-clause-within
 push_segments-requires-clause-within c = λ t h.
-    let turned = c.in_ok-push_turns.ensures in
-    let sorted = sorted-from c.new-turns.result turned.more c.push_turns.new.turns c.into_vec-turns.result.items c.sort_unstable.new.self.items c.as_slice.result.now
-    c.new-turns.ensures turned.extends c.into_vec-turns.ensures c.sort_unstable.ensures.permutation c.as_slice.ensures.value in
-    turned.within t (sorted.back t h)
+    let bounded = c.in_ok-push_bounds.ensures in
+    let sorted = sorted-from c.new-bounds.result bounded.more c.push_bounds.new.bounds c.into_vec-bounds.result.items c.sort_unstable.new.self.items c.as_slice.result.now
+    c.new-bounds.ensures bounded.extends c.into_vec-bounds.ensures c.sort_unstable.ensures.permutation c.as_slice.ensures.value in
+    bounded.within t (sorted.back t h)
 
 pub push_segments-requires-clause-uniform : goal.push_segments-requires-clause-uniform
 push_segments-requires-clause-uniform c = λ a b after up upto free.
-    let turned = c.in_ok-push_turns.ensures in
-    let sorted = sorted-from c.new-turns.result turned.more c.push_turns.new.turns c.into_vec-turns.result.items c.sort_unstable.new.self.items c.as_slice.result.now
-    c.new-turns.ensures turned.extends c.into_vec-turns.ensures c.sort_unstable.ensures.permutation c.as_slice.ensures.value in
+    let bounded = c.in_ok-push_bounds.ensures in
+    let sorted = sorted-from c.new-bounds.result bounded.more c.push_bounds.new.bounds c.into_vec-bounds.result.items c.sort_unstable.new.self.items c.as_slice.result.now
+    c.new-bounds.ensures bounded.extends c.into_vec-bounds.ensures c.sort_unstable.ensures.permutation c.as_slice.ensures.value in
     let block = c.requires.block in
     c.requires.follows _ _ (block.numbers a after (omega (arith, up, upto))) (block.numbers b (omega (arith, after, up)) upto) (block.rise a b after up upto)
-    (turned.calm a b after up upto (λ t h. free t (sorted.there t h)))
+    (bounded.constant a b after up upto (λ t h. free t (sorted.there t h)))

@@ -1,7 +1,7 @@
 use Rattle.std.proofs.Common.{◌≤◌, arith}
-use Rattle.solver_index.proofs.Calm.{operator-turns}
+use Rattle.solver_index.proofs.Calm.{operator-bounds}
 use Rattle.solver_index.proofs.Operators.{operator-is}
-use Rattle.solver_index.proofs.turning_places.push_operator.Goals as goal
+use Rattle.solver_index.proofs.range_bounds.push_operator.Goals as goal
 use Rattle.std.proofs.lemmas.Result.{on_ok_weaker}
 
 pub first_without-first-requires-clause-falls : goal.first_without-first-requires-clause-falls
@@ -23,6 +23,6 @@ returns c =
     let first = c.first_without-first.ensures in
     let last = c.first_without-last.ensures in
     on_ok_weaker c.push-2.result (λ pushed.
-    operator-turns c.args.range.now (operator-is c.args.range.now c.requires.versions c.requires.operator) c.args.entries.now c.args.from c.args.to
+    operator-bounds c.args.range.now (operator-is c.args.range.now c.requires.versions c.requires.operator) c.args.entries.now c.args.from c.args.to
     c.first_without-first.result c.first_without-last.result c.requires.block first.low last.low last.high first.front first.rest last.front last.rest
-    c.args.turns.now c.push.new.self c.push-2.new.self c.in_ok-push.ensures.ok pushed) c.push-2.ensures.ok
+    c.args.bounds.now c.push.new.self c.push-2.new.self c.in_ok-push.ensures.ok pushed) c.push-2.ensures.ok

@@ -4,14 +4,14 @@ ghost use Rattle.plan_types.specs.Members.{members};
 ghost use Rattle.version_range.specs.Version.{has_versions};
 ghost use Rattle.solver_index.specs.Before.{IsJoin, is_operator};
 ghost use Rattle.solver_index.specs.Blocks.{IsBlock};
-ghost use Rattle.solver_index.specs.TurningPlaces.{AreTurns};
+ghost use Rattle.solver_index.specs.RangeBounds.{AreBounds};
 
 use crate::blocks::{Test, first_without};
 use plan_types::{Entry, List, NoMemory, Range};
 
 /// Appends the places in a block at which instances may enter or leave a range.
-pub(crate) fn push_turns(
-    turns: &mut List<u64>,
+pub(crate) fn push_bounds(
+    bounds: &mut List<u64>,
     range: &Range,
     entries: &[Entry],
     from: usize,
@@ -19,19 +19,19 @@ pub(crate) fn push_turns(
 ) -> Result<(), NoMemory>
     requires block { IsBlock entries.now from to }
     requires versions { has_versions range.now ≡ true }
-    ensures { OnOk result (AreTurns (members range.now) entries.now from to turns.old turns.new) }
+    ensures { OnOk result (AreBounds (members range.now) entries.now from to bounds.old bounds.new) }
 {
     // Chains group from the left, so the right sides come first.
     let mut rest = range;
     while let Some((left, right)) = sides(rest) {
-        push_turns(turns, right, entries, from, to)?;
+        push_bounds(bounds, right, entries, from, to)?;
         rest = left;
     }
-    push_operator(turns, rest, entries, from, to)
+    push_operator(bounds, rest, entries, from, to)
 }
 
 fn push_operator(
-    turns: &mut List<u64>,
+    bounds: &mut List<u64>,
     range: &Range,
     entries: &[Entry],
     from: usize,
@@ -40,12 +40,12 @@ fn push_operator(
     requires block { IsBlock entries.now from to }
     requires versions { has_versions range.now ≡ true }
     requires operator { is_operator range.now ≡ true }
-    ensures { OnOk result (AreTurns (members range.now) entries.now from to turns.old turns.new) }
+    ensures { OnOk result (AreBounds (members range.now) entries.now from to bounds.old bounds.new) }
 {
     let first = first_without(Test::IsBefore, range, entries, from, to);
     let last = first_without(Test::IsMember, range, entries, first, to);
-    turns.push(first as u64)?;
-    turns.push(last as u64)
+    bounds.push(first as u64)?;
+    bounds.push(last as u64)
 }
 
 fn sides(range: &Range) -> Option<(&Range, &Range)>

@@ -3,12 +3,12 @@ use Rattle.std.proofs.Common.{◌≡◌, ◌≤◌, true}
 use Rattle.plan_types.specs.Members.{members}
 use Rattle.plan_types.specs.declared.range.Range.{size-Range}
 use Rattle.version_range.specs.Version.{has_versions}
-use Rattle.solver_index.specs.TurningPlaces.{AreTurnsBut}
-use Rattle.solver_index.proofs.turning_places.+push_turns.Given as goal
+use Rattle.solver_index.specs.RangeBounds.{AreBoundsBut}
+use Rattle.solver_index.proofs.range_bounds.+push_bounds.Given as goal
 
 abbrev pub invariant-loop-left : goal.invariant-loop-left
 invariant-loop-left l = record {
-  turned : AreTurnsBut (members l.range) (members l.rest) l.entries l.from l.to l.fn.turns l.turns;
+  bounded : AreBoundsBut (members l.range) (members l.rest) l.entries l.from l.to l.fn.bounds l.bounds;
   versions : has_versions l.rest ≡ true;
   size : size-Range l.rest ≤ size-Range l.range;
 }

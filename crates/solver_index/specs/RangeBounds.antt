@@ -16,14 +16,14 @@ IsConstant has v w = (u : Version) → HasNumbers u → is_below u v ≡ false �
 abbrev pub IsConstantWhere : (Version → Bool) → (Version → Bool) → Type 0
 IsConstantWhere has f = (v w : Version) → HasNumbers v → HasNumbers w → is_below w v ≡ false → IsConstant has v w → f v ≡ f w
 
--- no turn lies behind place a and at or before place b
-abbrev pub HasNoTurn : List ℕ → ℕ → ℕ → Type 0
-HasNoTurn turns a b = (t : ℕ) → Contains turns t → a < t → b < t
+-- no bound lies behind place a and at or before place b
+abbrev pub HasNoBound : List ℕ → ℕ → ℕ → Type 0
+HasNoBound bounds a b = (t : ℕ) → Contains bounds t → a < t → b < t
 
--- where no turn lies between two places, their versions are both inside the cuts or both outside
+-- where no bound lies between two places, their versions are both inside the cuts or both outside
 abbrev pub AreUniform : List Version → List ℕ → List Entry → ℕ → ℕ → Type 0
-AreUniform cuts turns entries from to =
-    (a b : ℕ) → from ≤ a → a ≤ b → b < to → HasNoTurn turns a b → inside cuts (version_at entries a) ≡ inside cuts (version_at entries b)
+AreUniform cuts bounds entries from to =
+    (a b : ℕ) → from ≤ a → a ≤ b → b < to → HasNoBound bounds a b → inside cuts (version_at entries a) ≡ inside cuts (version_at entries b)
 
 -- the versions from one place up to another are all inside the cuts or all outside
 abbrev pub IsUniform : List Version → List Entry → ℕ → ℕ → Type 0
@@ -35,16 +35,16 @@ pub record IsOperator (range : Range) : Type 0 where
   pub front : (u w : Version) → HasNumbers u → HasNumbers w → is_below w u ≡ false → before range w ≡ true → before range u ≡ true
   pub down : (u w : Version) → HasNumbers u → HasNumbers w → before range u ≡ false → is_below w u ≡ false → members range w ≡ true → members range u ≡ true
 
--- more turns are appended; membership is constant between them
-pub record AreTurns (has : Version → Bool) (entries : List Entry) (from to : ℕ) (old new : List ℕ) : Type 0 where
+-- more bounds are appended; membership is constant between them
+pub record AreBounds (has : Version → Bool) (entries : List Entry) (from to : ℕ) (old new : List ℕ) : Type 0 where
   pub more : List ℕ
   pub extends : new ≡ old ++ more
   pub within : (t : ℕ) → Contains more t → (from ≤ t) × (t ≤ to)
-  pub calm : (a b : ℕ) → from ≤ a → a ≤ b → b < to → HasNoTurn more a b → IsConstant has (version_at entries a) (version_at entries b)
+  pub constant : (a b : ℕ) → from ≤ a → a ≤ b → b < to → HasNoBound more a b → IsConstant has (version_at entries a) (version_at entries b)
 
 -- the same, where membership in the rest of the range is constant between them
-pub record AreTurnsBut (has rest : Version → Bool) (entries : List Entry) (from to : ℕ) (old new : List ℕ) : Type 0 where
+pub record AreBoundsBut (has rest : Version → Bool) (entries : List Entry) (from to : ℕ) (old new : List ℕ) : Type 0 where
   pub more : List ℕ
   pub extends : new ≡ old ++ more
   pub within : (t : ℕ) → Contains more t → (from ≤ t) × (t ≤ to)
-  pub calm : (a b : ℕ) → from ≤ a → a ≤ b → b < to → HasNoTurn more a b → IsConstant rest (version_at entries a) (version_at entries b) → IsConstant has (version_at entries a) (version_at entries b)
+  pub constant : (a b : ℕ) → from ≤ a → a ≤ b → b < to → HasNoBound more a b → IsConstant rest (version_at entries a) (version_at entries b) → IsConstant has (version_at entries a) (version_at entries b)
