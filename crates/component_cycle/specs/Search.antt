@@ -115,11 +115,11 @@ pub record GoesOn (needs : List (List ℕ)) (s t : Search) (bound : ℕ) : Type 
   pub seen : (v : ℕ) → state s v ≢ Unseen → state t v ≢ Unseen
   pub less : to_do needs t < bound
 
--- a step that lowers the measure
+-- a later state of the search, with less remaining work
 abbrev pub Lowers : List (List ℕ) → Search → Search → Type 0
 Lowers needs s t = GoesOn needs s t (to_do needs s)
 
--- a step that doesn't raise the measure
+-- a later state of the search, with no more remaining work
 abbrev pub DoesNotRaise : List (List ℕ) → Search → Search → Type 0
 DoesNotRaise needs s t = GoesOn needs s t (to_do needs s + 1)
 

@@ -15,7 +15,7 @@ const MOST_RECENT: usize = 64;
 pub struct FlagSettings {
     /// The earlier settings, in shared maps.
     shared: List<Shared<BTreeMap<Text, bool>>>,
-    /// The latest settings, at most 64.
+    /// The settings that aren't in a shared map yet, at most 64.
     recent: List<FlagSet>,
 }
 

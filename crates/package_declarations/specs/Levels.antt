@@ -35,7 +35,7 @@ pub record IsLevel (conds around : List Cond) (level : Level) (branch : Branch) 
   pub taken : slice_get conds level.taken ≡ Some (all_of (around ++ branch.condition ∷ []))
   pub chain : IsNumbered conds level.chain branch.chain
 
--- levels of nested branches, each inside the one before it
+-- the levels belong to these branches one by one, and each branch is inside the one before it
 abbrev pub AreLevels : List Cond → List Cond → List Level → List Branch → Type 0
 AreLevels conds around [] [] = Unit {0}
 AreLevels conds around [] (branch ∷ branches) = ⊥

@@ -1,4 +1,4 @@
--- Definitions for single steps of the walk.
+-- Definitions for single steps of the walk over the nodes of a plan, in `src/reached.rt`.
 use Rattle.std.specs.Prelude.{◌≡◌, ◌⊎◌, ◌↔◌, ℕ, Bool, true, ◌&&◌, cond, List, ◌++◌, Contains, slice_index_or, Option, Some, None}
 use Rattle.plan_types.specs.declared.dependency.LibName.TheVariants.{Main}
 use Rattle.plan_types.specs.declared.description.Component.{Component}

@@ -16,7 +16,7 @@ pub enum Cause {
     StrayBrace,
     /// A brace that is never closed.
     UnclosedBrace,
-    /// A name is missing, or isn't well-formed.
+    /// The name of a field, section, package or component is missing, or isn't well-formed.
     BadName,
     /// More than 64 constructs are open at once.
     TooDeep,

@@ -14,7 +14,7 @@ pub(crate) struct PlaceRun {
     pub to: u64,
 }
 
-/// Places of instances, kept as runs.
+/// A list of instances' places: consecutive places are kept as one run.
 #[derive(Debug, Drop)]
 pub struct PlaceRuns {
     runs: List<PlaceRun>,

@@ -31,12 +31,12 @@ abbrev pub byte_after : ℕ → List ℕ → Option (List ℕ)
 byte_after byte [] = None
 byte_after byte (b ∷ bs) = if b == byte then Some bs else None
 
--- Joins parts to the left until no part follows. Each part takes bytes, so there are at most n.
+-- Reads parts until none follows, at most n, and joins each to the value so far: they associate to the left.
 unfoldable pub chain : {A B : Type 0} → (A → B → A) → (List ℕ → Result (Option (B × List ℕ)) Cause) → ℕ → A → List ℕ → Result (A × List ℕ) Cause
 chain join next zero left rest = Ok (left, rest)
 chain join next (suc n) left rest = next rest >>= λ found. elim found [ None ↦ Ok (left, rest) | Some p ↦ chain join next n (join left p.0) p.1 ]
 
--- a chain after its first part
+-- a chain after its first part; a part takes a byte or more, so the bound is never reached
 abbrev pub chained : {A B : Type 0} → (A → B → A) → (List ℕ → Result (Option (B × List ℕ)) Cause) → A × List ℕ → Result (A × List ℕ) Cause
 chained join next first = chain join next (length first.1 + 1) first.0 first.1
 

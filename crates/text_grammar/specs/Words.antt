@@ -1,4 +1,4 @@
--- The words of a text, and words that are values.
+-- The words of a text, and readers of one word: a boolean, a package's name.
 use Rattle.std.specs.Prelude.{ℕ, Bool, true, false, ◌||◌, ◌==◌, if◌then◌else◌, List, [], ◌∷◌, map, codes, filter, Option, Some, None}
 use Rattle.std.specs.Char.{to_ascii_lowercase}
 use Rattle.std.specs.List.{slice_split}

@@ -1,4 +1,4 @@
-// The words of a text, and words that are values.
+// The words of a text, and readers of one word: a boolean, a package's name.
 ghost use Rattle.std.specs.Prelude.{◌≡◌, ◌<◌, [], ◌∷◌, length, not, IfOk, MatchOption};
 ghost use Rattle.std.specs.List.{prefix_len};
 ghost use Rattle.text_grammar.specs.Words.{boolean, is_between, package_name, words};

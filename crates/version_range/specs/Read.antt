@@ -56,7 +56,7 @@ version_at star spec text = do
   all ← chained followed (next_number star spec) (first.0 ∷ [], first.1)
   Ok (record { parts = all.0 }, all.1)
 
--- the cause where the byte that is due is no digit
+-- the cause where a required byte is missing; a missing number is `BadVersion`
 abbrev pub missing : Spec → List ℕ → Cause
 missing spec = cause_at spec BadRange
 
