@@ -2,7 +2,7 @@
 use Rattle.std.proofs.Common.{◌≡◌, ℕ, ◌+◌, ◌-◌, ◌*◌, ◌<◌, ◌≤◌, List, [], ◌∷◌, ◌++◌, length, sym, ap, subst, arith, length-append}
 use Rattle.choice_problem.specs.Trail.{choice_of}
 use Rattle.choice_problem.specs.Answer.{Answer, one_visited, of_value}
-use Rattle.choice_problem.proofs.Limits.{of_value-tries, answer-tries}
+use Rattle.choice_problem.proofs.SearchLimits.{of_value-tries, answer-tries}
 use Rattle.choice_tree.specs.declared.tree.Node.{Node}
 use Rattle.choice_tree.specs.Tree.{stepped, values_left, GivesNext}
 use Rattle.backjump.specs.declared.walk.Walk.{Walk}

@@ -16,7 +16,7 @@ use Rattle.choice_problem.specs.Answer.{GaveUp, Past, Answer, counts_of, one_vis
 use Rattle.validation.specs.View.{View, Represents}
 use Rattle.choice_tree.specs.declared.tree.Node.{Node}
 use Rattle.choice_tree.specs.Tree.{fresh, stepped, values_left, choice_at, GivesNext}
-use Rattle.choice_problem.proofs.Trails.{open-unchosen}
+use Rattle.choice_problem.proofs.TrailLemmas.{open-unchosen}
 use Rattle.choice_problem.proofs.TrailEnds.{snoc-none, snoc-same}
 use Rattle.backjump.specs.declared.walk.Walk.{Walk}
 use Rattle.backjump.specs.declared.walk.Turn.TheVariants.{Look, Try, Back}
@@ -25,7 +25,7 @@ use Rattle.backjump.specs.declared.walk.Step.{Step}
 use Rattle.backjump.specs.declared.walk.Step.TheVariants.{On, Done}
 use Rattle.backjump.specs.Walk.{Point, Search, manner, whole, below, of_point_after, resume, nodes_of, sets_of, IsChain, Recalls, past_at, IsHeld, failed_with, AtLook, AtTry, AtBack, AtCut, AtExhausted, AtValue, load, IsLighter, Moves}
 use Rattle.backjump.proofs.Rises.{resume-found, resume-stopped, resume-none, resume-point, after-lacking, after-having, value-kept, value-failed, below-none, below-some}
-use Rattle.validation.proofs.Views.{known-open}
+use Rattle.validation.proofs.NextViews.{known-open}
 use Rattle.backjump.proofs.Room.{fuel-left}
 
 -- what a `pop` leaves of a list whose last item is known

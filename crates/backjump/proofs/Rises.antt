@@ -7,7 +7,7 @@ use Rattle.choice_problem.specs.Active.{open_in}
 use Rattle.choice_problem.specs.Conflict.{conflict}
 use Rattle.choice_problem.specs.ConflictSet.{has, union}
 use Rattle.choice_problem.specs.Answer.{Found, GaveUp, Past, Answer, fails, after_conflict, of_value, of_values}
-use Rattle.choice_problem.proofs.Limits.{after_end-tries, of_values-tries, answer-tries}
+use Rattle.choice_problem.proofs.SearchLimits.{after_end-tries, of_values-tries, answer-tries}
 use Rattle.choice_tree.specs.Tree.{values_left}
 use Rattle.backjump.specs.Walk.{Point, Search, manner, below, of_point, of_point_after, resume, failed_with}
 

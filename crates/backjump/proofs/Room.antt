@@ -12,7 +12,7 @@ use Rattle.choice_problem.specs.Trail.{value_in, AreNew, before_any, one_more}
 use Rattle.choice_problem.specs.Active.{is_open}
 use Rattle.common_laws.specs.Lists.{contains-head, contains-left, contains-right, without}
 use Rattle.qualified_goals.specs.SameVariable.{same_var-refl}
-use Rattle.validation.proofs.Views.{known-open}
+use Rattle.validation.proofs.NextViews.{known-open}
 use Rattle.choice_tree.specs.Tree.{choice_at}
 use Rattle.backjump.specs.Walk.{Point, IsChain}
 

@@ -2,7 +2,7 @@
 use Rattle.std.proofs.Common.{◌≡◌, List, [], ◌∷◌, ap, ◌∙◌}
 use Rattle.qualified_goals.specs.declared.variable.Var.{Var}
 use Rattle.choice_problem.specs.ConflictSet.{with_var, set_of, union}
-use Rattle.choice_problem.proofs.Sets.{rising-set_of, set_of-rising}
+use Rattle.choice_problem.proofs.VariableSets.{rising-set_of, set_of-rising}
 
 -- a variable and the set of some are the set of them all
 pub with-reason : (v : Var) (vars : List Var) → union (set_of (v ∷ [])) (set_of vars) ≡ set_of (v ∷ vars)

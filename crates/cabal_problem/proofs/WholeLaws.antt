@@ -43,7 +43,7 @@ use Rattle.cabal_problem.specs.Lawful.{is_lawful}
 use Rattle.cabal_problem.specs.Problem.{problem_of}
 use Rattle.cabal_problem.specs.WholeDemands.{body_requests, has_stanza_variable, front_demands, part_requests, parts_under, requests_of, setup_request, setup_requests, whole_problem, whole_request}
 use Rattle.cabal_problem.proofs.Findings.{IsOutward, entry-sound, in-component-deps, kind-found, outward-package, package-found, setup-found}
-use Rattle.choice_problem.proofs.Trails.{is_made-is}
+use Rattle.choice_problem.proofs.TrailLemmas.{is_made-is}
 use Rattle.plan_types.specs.Packages.{entries_of}
 
 outward-at : (d : Description) (at : ExternalDep) → Contains (outward d) at → IsOutward d at.guarded.dep

@@ -15,8 +15,8 @@ use Rattle.choice_problem.specs.Active.{open_in}
 use Rattle.choice_problem.specs.ConflictSet.{first_of}
 use Rattle.choice_problem.specs.Sound.{AreOpened, none_opened, one_opened, AnyOrderNamesAlike}
 use Rattle.common_laws.specs.Lists.{contains-none, contains-left, contains-map, map-contains}
-use Rattle.choice_problem.proofs.Trails.{value_in-made, value_in-new, Passes, passes-push, passes-trail, open-is, open-unchosen, next-open, next-none, demand-after, yes-after, Room, room-start, room-zero, room-next, choice-general, passes-yes-general, general-lawful}
-use Rattle.choice_problem.proofs.Conflicts.{and-false}
+use Rattle.choice_problem.proofs.TrailLemmas.{value_in-made, value_in-new, Passes, passes-push, passes-trail, open-is, open-unchosen, next-open, next-none, demand-after, yes-after, Room, room-start, room-zero, room-next, choice-general, passes-yes-general, general-lawful}
+use Rattle.choice_problem.proofs.ConflictLemmas.{and-false}
 
 -- how the trail of an assignment ends
 

@@ -8,7 +8,7 @@ use Rattle.qualified_goals.specs.SameVariable.{same_var-is, same_var-refl}
 use Rattle.choice_problem.specs.ConflictSet.{is_rising, has, union, front_of, behind}
 use Rattle.common_laws.specs.Lists.{contains-head, contains-none, contains-cases}
 use Rattle.qualified_goals.proofs.GoalOrder.{before-itself, before-back, before-neither, not-before-trans}
-use Rattle.choice_problem.proofs.Sets.{has-contains, has-union, rising-tail, rising-below, rising-set_of, rising-same, contains-has, or-same}
+use Rattle.choice_problem.proofs.VariableSets.{has-contains, has-union, rising-tail, rising-below, rising-set_of, rising-same, contains-has, or-same}
 
 pub behind-rising : (v : Var) (vars : List Var) → is_rising vars ≡ true → is_rising (behind v vars) ≡ true
 behind-rising v [] h = refl

@@ -1,10 +1,11 @@
--- One choice more or less at the end of a trail.
-use Rattle.std.proofs.Common.{◌≡◌, ℕ, ◌-◌, true, false, cond, List, [], ◌∷◌, ◌++◌, length, take, Some, None, refl, sym, ap, ◌∙◌, subst, arith, append-nil, length-append}
-use Rattle.std.specs.Prelude.{nat_eq}
+-- Shared: one choice more or less at the end of a trail.
+use Rattle.std.proofs.Common.{◌≡◌, ℕ, ◌-◌, true, false, cond, List, [], ◌∷◌, ◌++◌, length, take, get_or, Some, None, refl, sym, ap, ◌∙◌, subst, arith, append-nil, length-append}
+use Rattle.std.specs.Prelude.{◌≢◌, nat_eq, is_some}
 use Rattle.std.specs.List.{filter}
 use Rattle.std.proofs.Math.Seq.{take-append_seam}
 use Rattle.std.proofs.lemmas.Bool.{false≢true}
-use Rattle.std.proofs.lemmas.List.Elements.{filter-append}
+use Rattle.std.proofs.lemmas.List.Elements.{filter-append, Contains-get_or}
+use Rattle.std.proofs.lemmas.List.Quantifiers.{all_pairs_push}
 use Rattle.indexmap.specs.IndexMap.{IndexMap}
 use Rattle.keyed_lists.specs.Lists.{all_but_last, items_at}
 use Rattle.qualified_goals.specs.declared.variable.Var.{Var}
@@ -12,9 +13,11 @@ use Rattle.qualified_goals.specs.Variable.{same_var}
 use Rattle.qualified_goals.specs.SameVariable.{same_var-is}
 use Rattle.choice_problem.specs.declared.problem.Choice.{Choice}
 use Rattle.choice_problem.specs.Table.{entry, with_entry, without_entry}
-use Rattle.choice_problem.specs.Trail.{value_in, AreNew, IsTrail}
+use Rattle.choice_problem.specs.Trail.{value_in, AreNew, AreOfDifferentVars, IsTrail}
 use Rattle.choice_problem.specs.Twins.{is_of_package}
 use Rattle.choice_problem.specs.Trail.AreNew.{before_any, one_more}
+use Rattle.common_laws.specs.Lists.{pairs-nil}
+use Rattle.choice_problem.proofs.TrailLemmas.{value_in-some}
 
 -- a list with one item more
 
@@ -78,6 +81,16 @@ new-last before_any front c e = absurd (snoc-none front c [] e)
 new-last (one_more {before = before} new d free is) front c e =
     let same = snoc-same before d front c (sym is ∙ e) in
     ap (λ (t : List Choice). value_in t c.var) (sym same.0) ∙ ap (λ (x : Choice). value_in before x.var) (sym same.1) ∙ free
+
+-- so no two of them are of one variable
+pub new-different : {trail : List Choice} → AreNew trail → AreOfDifferentVars trail
+new-different before_any = pairs-nil (λ (c d : Choice). c.var ≢ d.var)
+new-different (one_more {before = before} new c free is) =
+    subst AreOfDifferentVars (sym is)
+    (all_pairs_push (λ (x y : Choice). x.var ≢ y.var) before c (new-different new)
+    (λ k d low same.
+    let chosen : is_some (value_in before (get_or before k d).var) ≡ true = value_in-some before (get_or before k d) (Contains-get_or before k d low) in
+    false≢true (sym (ap is_some free) ∙ ap (λ v. is_some (value_in before v)) (sym same) ∙ chosen)))
 
 -- what is kept of a trail
 

@@ -13,11 +13,11 @@ use Rattle.choice_problem.specs.Conflict.{conflict}
 use Rattle.choice_problem.specs.ConflictSet.{has, set_of, union}
 use Rattle.common_laws.specs.Lists.{contains-head, contains-tail}
 use Rattle.choice_problem.specs.Answer.{Found, Failed, GaveUp, Past, Answer, Manner, one_visited, one_exhausted, gives_up, fails, exhausts, after_conflict, of_value, after_end, after_value, of_values, answer_from, nothing_yet, guided_answer, answer_of, plain_count}
-use Rattle.choice_problem.proofs.Limits.{answer_with, TriesFrom, after_end-tries, of_values-tries, answer-tries, limit-tries}
-use Rattle.choice_problem.proofs.Trails.{Room, room-start, room-next, next-known, next-open, choices-general, general-lawful}
+use Rattle.choice_problem.proofs.SearchLimits.{answer_with, TriesFrom, after_end-tries, of_values-tries, answer-tries, limit-tries}
+use Rattle.choice_problem.proofs.TrailLemmas.{Room, room-start, room-next, next-known, next-open, choices-general, general-lawful}
 use Rattle.choice_problem.specs.Guide.{least}
 use Rattle.choice_problem.specs.Guides.{least-is-guide}
-use Rattle.choice_problem.proofs.Ends.{unlimited, Open, Reaches, here, reach-push, reach-choices, never-gives-up, failed-none, found-valid}
+use Rattle.choice_problem.proofs.SearchEnds.{unlimited, Open, Reaches, here, reach-push, reach-choices, never-gives-up, failed-none, found-valid}
 
 -- a search without a limit that leaves a point early, and one that doesn't
 

@@ -1,5 +1,6 @@
 -- The definitions on small problems, computed.
-use Rattle.std.specs.Prelude.{◌≡◌, ℕ, true, false, cond, ◌||◌, nat_eq, List, [], ◌∷◌, Option, Some, None, refl}
+use Rattle.std.specs.Prelude.{◌≡◌, ℕ, zero, suc, true, false, cond, ◌||◌, nat_eq, List, [], ◌∷◌, Option, Some, None, refl}
+use Rattle.std.proofs.Common.{arith, ap}
 use Rattle.plan_types.specs.declared.limit.Limit.TheVariants.{Unlimited, At}
 use Rattle.qualified_goals.specs.declared.variable.Qual.TheVariants.{Top}
 use Rattle.qualified_goals.specs.declared.variable.Part.TheVariants.{Package, Flag}
@@ -11,7 +12,7 @@ use Rattle.choice_problem.specs.declared.outcome.Outcome.TheVariants as outcome
 use Rattle.choice_problem.specs.Problem.{Problem}
 use Rattle.choice_problem.specs.Assignment.{Assignment, is_yes, is_met}
 use Rattle.choice_problem.specs.General.{general}
-use Rattle.choice_problem.specs.Trail.{open_vars, next_var, trail_of, choice_of}
+use Rattle.choice_problem.specs.Trail.{AreOfDifferentVars, open_vars, next_var, trail_of, choice_of}
 use Rattle.choice_problem.specs.Valid.{ComesBefore}
 use Rattle.choice_problem.specs.ConflictSet.{set_of, has}
 use Rattle.choice_problem.specs.Active.{made_active, active, reason}
@@ -79,6 +80,17 @@ plan_trail = choice main 0 ∷ choice b 0 ∷ choice a 1 ∷ choice c 1 ∷ []
 pub late_trail : trail_of (general late) plan ≡ plan_trail
 unfolding open_vars
 late_trail = refl
+
+-- its choices are of different variables; a choice of b's other value behind them would be of b again
+pub two_apart : AreOfDifferentVars (choice main 0 ∷ choice b 0 ∷ [])
+two_apart zero zero d low high = absurd (omega (arith, low))
+two_apart zero (suc zero) d low high = λ same. omega (arith, ap (λ (v : Var). v.«package») same)
+two_apart zero (suc (suc j)) d low high = absurd (omega (arith, high))
+two_apart (suc i) zero d low high = absurd (omega (arith, low))
+two_apart (suc i) (suc j) d low high = absurd (omega (arith, low, high))
+
+pub b_again : AreOfDifferentVars (choice main 0 ∷ choice b 0 ∷ choice a 1 ∷ choice b 1 ∷ []) → ⊥
+b_again apart = apart 1 3 (choice main 0) (omega arith) (omega arith) refl
 
 -- before any choice main alone is open, and then b, before c
 pub first_open : next_var (general late) [] ≡ Some (package_var main)

@@ -1,5 +1,5 @@
 -- The trail of an assignment: its choices in the order in which demands open their variables.
-use Rattle.std.specs.Prelude.{◌≡◌, ℕ, zero, suc, Bool, cond, ◌&&◌, List, [], ◌∷◌, ◌++◌, Option, Some, None, is_none, filter, map, flat_map, nat_eq}
+use Rattle.std.specs.Prelude.{◌≡◌, ◌≢◌, ℕ, zero, suc, Bool, cond, ◌&&◌, List, [], ◌∷◌, ◌++◌, Option, Some, None, is_none, filter, map, flat_map, nat_eq, AllPairs}
 use Rattle.qualified_goals.specs.declared.variable.Var.{Var}
 use Rattle.choice_problem.specs.declared.problem.Choice.{Choice}
 use Rattle.qualified_goals.specs.Variable.{same_var}
@@ -21,6 +21,10 @@ value_in (c ∷ trail) v = cond (same_var c.var v) (Some c.val) (value_in trail 
 pub data AreNew : List Choice → Type 0 where
   before_any : AreNew []
   one_more : {before : List Choice} {all : List Choice} → AreNew before → (c : Choice) → value_in before c.var ≡ None → all ≡ before ++ c ∷ [] → AreNew all
+
+-- no two of the choices are of one variable
+abbrev pub AreOfDifferentVars : List Choice → Type 0
+AreOfDifferentVars choices = AllPairs (λ c d. c.var ≢ d.var) choices
 
 -- what a trail keeps of its choices: each is of another variable, one table has their values, and another those of each package's instances
 pub record IsTrail {S : Type 0} (choices : List Choice) (table : List (Var × ℕ)) (instances : IndexMap ℕ (List Choice) S) : Type 0 where

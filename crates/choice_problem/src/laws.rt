@@ -9,7 +9,8 @@ ghost use Rattle.choice_problem.specs.Valid.{IsFirst};
 ghost use Rattle.choice_problem.specs.Joined.{AreYesTogether, AreOne};
 ghost use Rattle.choice_problem.specs.Guide.{Guide, IsGuide};
 ghost use Rattle.choice_problem.specs.Answer.{GaveUp, guided_answer, answer_of, plain_count};
-ghost use Rattle.choice_problem.specs.Sound.{ConflictsAreSound, FailuresAreSound, AnyOrderNamesAlike, IsRightEnd, IsValidEnd};
+ghost use Rattle.choice_problem.specs.Sound.{ConflictsAreSound, FailuresAreSound, AnyOrderNamesAlike};
+ghost use Rattle.choice_problem.specs.Sound.{IsRightEnd, IsValidEnd};
 
 /// The set of a conflict admits none, whatever the order in which the choices before it were made.
 pub fn conflicts_are_sound()
@@ -26,13 +27,15 @@ pub fn ends_right()
     ensures { (p : Problem) → Lawful p → IsRightEnd p (answer_of p Limit.Unlimited).ended }
 {}
 
-/// Whoever picks its variables, a search without a limit finds a trail that is as a map whole and valid, or fails, exactly where
-/// there is no whole valid assignment.
+/// Whoever picks its variables, a search without a limit finds a trail that is as a map whole and valid. It fails exactly
+/// where there is no whole valid assignment.
 pub fn ends_valid()
-    ensures { (p : Problem) (guide : Guide) → Lawful p → IsGuide guide → IsValidEnd p (guided_answer guide p Limit.Unlimited).ended }
+    ensures { (p : Problem) (guide : Guide) → Lawful p → IsGuide guide
+        → IsValidEnd p (guided_answer guide p Limit.Unlimited).ended }
 {}
 
-/// Choices of open variables, in any order, after which none is open, name exactly the variables of the trail of that assignment.
+/// Choices of open variables, in any order, after which none is open, name exactly the variables of the trail of that
+/// assignment.
 pub fn any_order_names_alike()
     ensures { (p : Problem) → Lawful p → AnyOrderNamesAlike p }
 {}
@@ -60,5 +63,6 @@ pub fn general_is_lawful()
 
 /// There is one first trail: two whole valid assignments of which nothing comes before either have the same.
 pub fn one_first()
-    ensures { (g : General) (A B : Assignment) → LawfulGeneral g → IsFirst g A → IsFirst g B → trail_of g A ≡ trail_of g B }
+    ensures { (g : General) (A B : Assignment) → LawfulGeneral g → IsFirst g A → IsFirst g B
+        → trail_of g A ≡ trail_of g B }
 {}

@@ -24,7 +24,6 @@ pub use outcome::{Counts, Outcome};
 pub use plan_types::Limit;
 pub use problem::{Choice, Choices, Demand, push_named};
 pub use qualified_goals::{Names, Part, Qual, Var, is_before, is_same};
-pub use rising::{place_of, stands_at};
 pub use steps::Steps;
 pub use table::Table;
 pub use trail::Trail;

@@ -5,7 +5,7 @@ ghost use Rattle.choice_problem.specs.ConflictSet.{is_rising, has, place_of};
 use crate::{Var, is_before, is_same};
 
 /// The first place whose variable isn't before this one, found by halves.
-pub fn place_of(vars: &[Var], v: Var) -> usize
+pub(crate) fn place_of(vars: &[Var], v: Var) -> usize
     requires { IsTrue (is_rising vars.now) }
     ensures { result ≡ place_of v vars.now }
 {
@@ -13,7 +13,7 @@ pub fn place_of(vars: &[Var], v: Var) -> usize
 }
 
 /// Whether a variable stands at its place.
-pub fn stands_at(vars: &[Var], place: usize, v: Var) -> bool
+pub(crate) fn stands_at(vars: &[Var], place: usize, v: Var) -> bool
     requires rising { IsTrue (is_rising vars.now) }
     requires place { place ≡ place_of v vars.now }
     ensures { result ≡ has vars.now v }

@@ -3,7 +3,7 @@ ghost use Rattle.std.specs.Prelude.{◌≡◌, ◌++◌, ◌∷◌, [], None, �
 ghost use Rattle.qualified_goals.specs.declared.variable.Var.{Var};
 ghost use Rattle.keyed_lists.specs.Lists.{items_at};
 ghost use Rattle.choice_problem.specs.Table.{entry, with_entry};
-ghost use Rattle.choice_problem.specs.Trail.{value_in, with_instance, without_instance};
+ghost use Rattle.choice_problem.specs.Trail.{AreOfDifferentVars, value_in, with_instance, without_instance};
 ghost use Rattle.choice_problem.specs.Twins.{is_of_package};
 
 use crate::table::Table;
@@ -60,13 +60,16 @@ impl Trail {
 
     /// The choices as a list.
     pub fn choices(&self) -> &List<Choice>
-        ensures { result.now ≡ self.now }
+        ensures choices { result.now ≡ self.now }
+        ensures different { AreOfDifferentVars result.now }
     {
         &self.choices
     }
 
+    /// The choices alone.
     pub fn into_choices(self) -> List<Choice>
-        ensures { result ≡ self }
+        ensures choices { result ≡ self }
+        ensures different { AreOfDifferentVars result }
     {
         let Trail {
             choices,
@@ -133,7 +136,8 @@ fn keep(
 ) -> Result<(), NoMemory>
     requires { entry values.old c.var ≡ None }
     ensures values { OnOk result ((v : Var) → entry values.new v ≡ with_entry c.var c.val (entry values.old) v) }
-    ensures instances { OnOk result ((n : ℕ) → items_at nat_eq instances.new n ≡ with_instance c n (items_at nat_eq instances.old n)) }
+    ensures instances { OnOk result ((n : ℕ) → items_at nat_eq instances.new n
+        ≡ with_instance c n (items_at nat_eq instances.old n)) }
     ensures no_value { OnErr result ((v : Var) → entry values.new v ≡ entry values.old v) }
     ensures no_instance { OnErr result ((n : ℕ) → items_at nat_eq instances.new n ≡ items_at nat_eq instances.old n) }
 {
@@ -150,7 +154,8 @@ fn add_instance(
     instances: &mut Lists<u64, Choice>,
     c: Choice,
 ) -> Result<(), NoMemory>
-    ensures ok { OnOk result ((n : ℕ) → items_at nat_eq instances.new n ≡ with_instance c n (items_at nat_eq instances.old n)) }
+    ensures ok { OnOk result ((n : ℕ) → items_at nat_eq instances.new n
+        ≡ with_instance c n (items_at nat_eq instances.old n)) }
     ensures err { OnErr result ((n : ℕ) → items_at nat_eq instances.new n ≡ items_at nat_eq instances.old n) }
 {
     match c.var.part {

@@ -58,7 +58,8 @@ impl<'a> Values<'a> {
 
     /// The choices of a package's instances that the trail has, and the choice behind it.
     pub fn instances_of(&self, package: u64) -> (&[Choice], Option<Choice>)
-        ensures { filter (is_of_package «package») self.now ≡ result.0.now ++ filter (is_of_package «package») (option_to_list result.1) }
+        ensures { filter (is_of_package «package») self.now
+            ≡ result.0.now ++ filter (is_of_package «package») (option_to_list result.1) }
     {
         (self.trail.instances_of(package), self.last)
     }

@@ -1,7 +1,9 @@
 // A problem that is written out as lists.
 ghost use Rattle.std.specs.Prelude.{◌≡◌, ◌&&◌, IfOk, IsTrue, MatchOption, filter, length, nat_lt};
 ghost use Rattle.std.specs.List.{list_all};
-ghost use Rattle.choice_problem.specs.Written.{is_among, is_listed, order_of, barred_of, begins_with, problem_of, AreLawful, has_each_below, is_once, is_order, are_listed_once, is_beside, is_empty, is_condition, are_lawful};
+ghost use Rattle.choice_problem.specs.Written.{is_among, is_listed, order_of, barred_of, begins_with, problem_of};
+ghost use Rattle.choice_problem.specs.Written.{has_each_below, is_once, is_order, are_listed_once, is_beside, is_empty};
+ghost use Rattle.choice_problem.specs.Written.{AreLawful, is_condition, are_lawful};
 
 use crate::{Choice, Choices, Demand, Trail, Var, is_same};
 use plan_types::{List, NoMemory};
@@ -236,7 +238,8 @@ impl Written {
         demands: List<Demand>,
     ) -> Option<Written>
         ensures { MatchOption result (AreLawful variables roots demands → ⊥)
-            (λ written. AreLawful variables roots demands × (⟦<Written as Choices>⟧.problem written ≡ problem_of variables roots demands)) }
+            (λ written. AreLawful variables roots demands
+            × (⟦<Written as Choices>⟧.problem written ≡ problem_of variables roots demands)) }
     {
         if lawful(variables.as_slice(), roots.as_slice(), demands.as_slice()) {
             Some(Written {

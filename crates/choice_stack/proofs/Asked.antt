@@ -5,7 +5,7 @@ use Rattle.qualified_goals.specs.declared.variable.Var.{Var}
 use Rattle.qualified_goals.specs.Variable.{same_var}
 use Rattle.qualified_goals.specs.SameVariable.{same_var-is, same_var-refl}
 use Rattle.choice_problem.specs.ConflictSet.{has}
-use Rattle.choice_problem.proofs.Sets.{has-append}
+use Rattle.choice_problem.proofs.VariableSets.{has-append}
 use Rattle.goal_links.specs.declared.mentions.Mention.{Mention}
 use Rattle.choice_problem.specs.declared.problem.Choice.{Choice}
 use Rattle.choice_problem.specs.Trail.{value_in}

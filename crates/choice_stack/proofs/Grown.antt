@@ -14,7 +14,7 @@ use Rattle.choice_stack.specs.Addition.{IsAddition}
 use Rattle.choice_stack.specs.Growth.{mentions_at}
 use Rattle.choice_stack.specs.Stack.{AllBelow, AreTargets, demand_at, demands_at, is_turned, made, no_demand, rising_from, turned}
 use Rattle.choice_stack.specs.View.{View}
-use Rattle.choice_stack.proofs.Stacks.{demands-grow, length-active, seen-same, targets-grow, targets-tail}
+use Rattle.choice_stack.proofs.StackLemmas.{demands-grow, length-active, seen-same, targets-grow, targets-tail}
 
 -- targets of demands at places
 

@@ -1,8 +1,8 @@
-pub mod Opened
-pub mod Stacks
+pub mod OpenVariables
+pub mod StackLemmas
 pub mod Asked
-pub mod Below
+pub mod DemandPlaces
 pub mod Turned
 pub mod Queries
-pub mod Graphs
+pub mod DemandGraphs
 pub mod Grown

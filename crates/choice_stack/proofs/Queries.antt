@@ -11,12 +11,12 @@ use Rattle.choice_problem.specs.Trail.{value_in}
 use Rattle.choice_problem.specs.Active.{is_waited_for, asks_for, waiting}
 use Rattle.choice_problem.specs.Conflict.{refuses}
 use Rattle.choice_problem.specs.ConflictSet.{has, is_rising}
-use Rattle.choice_problem.proofs.Sets.{set-same, set_of-rising}
+use Rattle.choice_problem.proofs.VariableSets.{set-same, set_of-rising}
 use Rattle.goal_links.specs.declared.mentions.Mention.{Mention}
 use Rattle.goal_links.specs.Mentions.{indices_from, places_on, places_of, vars_at}
 use Rattle.demand_agreement.specs.Places.{places_from}
 use Rattle.choice_stack.specs.Stack.{demand_at, demands_at, AllBelow, AreTargets, AreOpen}
-use Rattle.choice_stack.proofs.Stacks.{targets-tail}
+use Rattle.choice_stack.proofs.StackLemmas.{targets-tail}
 
 pub targets-below : (listed : List Demand) (ms : List Mention) → AreTargets listed ms → AllBelow (length listed) (places_of ms)
 targets-below listed [] h = tt

@@ -10,7 +10,7 @@ use Rattle.choice_problem.specs.Trail.{value_in}
 use Rattle.goal_links.specs.declared.mentions.Mention.{Mention}
 use Rattle.goal_links.specs.Mentions.{places_on}
 use Rattle.choice_stack.specs.Stack.{no_demand, demand_at, demands_at, watchers_from, AllBelow, is_turned, place_turned, turned}
-use Rattle.choice_stack.proofs.Below.{below-append, waits-below, waits-demands}
+use Rattle.choice_stack.proofs.DemandPlaces.{below-append, waits-below, waits-demands}
 
 pub turned-below : (v : Var) (listed seen : List Demand) (watchers : List Mention) (places given : List ℕ) → watchers ≡ watchers_from 0 listed → places ≡ places_on v watchers
     → seen ≡ listed → given ≡ places → AllBelow (length seen) given

@@ -6,7 +6,7 @@ use Rattle.choice_problem.specs.declared.problem.Choice.{Choice}
 use Rattle.choice_problem.specs.ConflictSet.{is_rising, has}
 use Rattle.choice_problem.specs.Trail.{value_in}
 use Rattle.goal_links.specs.Beside.{beside}
-use Rattle.goal_links.specs.Links.{Entries}
+use Rattle.goal_links.specs.Links.{Entries, var_at}
 
 -- what is linked stands in goal order, and has entries
 pub record AreInOrder (s : Entries) : Type 0 where
@@ -17,6 +17,10 @@ pub record AreInOrder (s : Entries) : Type 0 where
 pub record Keeps (s : Entries) (entry : ℕ) (v : Var) (sides : Option Var × Option Var) : Type 0 where
   pub owned : slice_get s.vars entry ≡ Some v
   pub held : slice_get s.kept entry ≡ Some (Some sides)
+
+-- the entry of a variable that was taken out keeps its neighbours among those that were linked
+abbrev pub KeepsNeighbours : Entries → Entries → ℕ → Type 0
+KeepsNeighbours old new entry = Keeps new entry (var_at old.vars entry) (beside (same_var (var_at old.vars entry)) old.linked)
 
 -- the entries of variables that pass a test keep what they kept
 abbrev pub StayKept : (Var → Bool) → Entries → Entries → Type 0

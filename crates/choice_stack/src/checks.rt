@@ -1,5 +1,6 @@
 // What is asked of demands under the choices so far.
-ghost use Rattle.std.specs.Prelude.{◌≡◌, ◌<◌, Some, None, IfOk, IfSome, OnOk, List, ◌++◌, length, filter, find, slice_get, option_to_list};
+ghost use Rattle.std.specs.Prelude.{◌≡◌, ◌<◌, ◌++◌, List, Some, None, IfSome, IfOk, OnOk};
+ghost use Rattle.std.specs.Prelude.{length, filter, find, slice_get, option_to_list};
 ghost use Rattle.std.specs.Option.{option_map};
 ghost use Rattle.choice_problem.specs.declared.problem.Demand.{Demand};
 ghost use Rattle.choice_problem.specs.Assignment.{is_made, is_yes};
@@ -7,7 +8,8 @@ ghost use Rattle.choice_problem.specs.Active.{vars_of, vars_of_first};
 ghost use Rattle.choice_problem.specs.Conflict.{is_broken, named_by, refuses, set_of_first};
 ghost use Rattle.choice_problem.specs.ConflictSet.{set_of};
 ghost use Rattle.choice_problem.specs.Trail.{value_in};
-ghost use Rattle.choice_stack.specs.Stack.{AllBelow, are_naming, demand_at, demands_at, is_owned_by, is_turned, owners_of, place_turned, source_on, sources_on, target_by, targets_by, turned};
+ghost use Rattle.choice_stack.specs.Stack.{AllBelow, are_naming, demand_at, demands_at, is_owned_by, is_turned, turned};
+ghost use Rattle.choice_stack.specs.Stack.{owners_of, place_turned, source_on, sources_on, target_by, targets_by};
 ghost use Rattle.demand_cycles.specs.Cycles.{owner_of};
 
 use choice_problem::{Choice, ConflictSet, Demand, Values, Var, is_same, push_named};
@@ -47,7 +49,8 @@ pub(crate) fn first_refusing(listed: &[Demand], places: &[usize], c: Choice) -> 
 /// The first of the demands at some places that the choices break.
 pub(crate) fn first_broken(listed: &[Demand], places: &[usize], trail: &Values<'_>) -> Option<usize>
     requires { AllBelow (length listed.now) places.now }
-    ensures found { find (is_broken trail.now) (demands_at listed.now places.now) ≡ option_map (demand_at listed.now) result }
+    ensures found { find (is_broken trail.now) (demands_at listed.now places.now)
+        ≡ option_map (demand_at listed.now) result }
     ensures within { IfSome result (λ place. place < length listed.now) }
 {
     for place in places {
@@ -118,7 +121,8 @@ pub(crate) fn yes_among(
     places: &[usize],
 ) -> Result<Vec<usize>, NoMemory>
     requires { AllBelow (length listed.now) places.now }
-    ensures { IfOk result (λ found. found.items ≡ filter (λ k. is_yes (value_in trail.now) (demand_at listed.now k)) places.now) }
+    ensures { IfOk result (λ found. found.items
+        ≡ filter (λ k. is_yes (value_in trail.now) (demand_at listed.now k)) places.now) }
 {
     let mut found = Vec::new(alloc);
     for place in places {
@@ -212,7 +216,8 @@ pub(crate) fn owners_at(
 
 fn push_owner_at(owners: &mut Vec<Var>, listed: &[Demand], place: usize) -> Result<(), NoMemory>
     requires { place < length listed.now }
-    ensures { OnOk result (owners.new.items ≡ owners.old.items ++ option_to_list (owner_of (demand_at listed.now place))) }
+    ensures { OnOk result (owners.new.items
+        ≡ owners.old.items ++ option_to_list (owner_of (demand_at listed.now place))) }
 {
     push_owner(owners, &listed[place])?;
     Ok(())

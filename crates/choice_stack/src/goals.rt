@@ -1,14 +1,15 @@
 // The targets of active demands, of which those that are open are linked in goal order.
-ghost use Rattle.std.specs.Prelude.{◌≡◌, ◌+◌, ◌<◌, ◌≤◌, ◌||◌, ◌&&◌, ◌++◌, [], ◌∷◌, List, Some, IfOk, IfSome, IsTrue, MatchOption, ℕ, true, false, length, take, drop, slice_get, slice_index_or};
+ghost use Rattle.std.specs.Prelude.{◌≡◌, ◌+◌, ◌<◌, ◌≤◌, ◌||◌, ◌&&◌, ◌++◌, [], ◌∷◌, List, ℕ, true, false, IsTrue};
+ghost use Rattle.std.specs.Prelude.{Some, IfSome, MatchOption, IfOk, OnErr, length, take, drop};
+ghost use Rattle.std.specs.Prelude.{slice_get, slice_index_or};
 ghost use Rattle.std.specs.Option.{option_map};
 ghost use Rattle.qualified_goals.specs.declared.variable.Var.{Var};
 ghost use Rattle.qualified_goals.specs.Variable.{same_var};
 ghost use Rattle.choice_problem.specs.ConflictSet.{first_behind, is_rising, has};
-ghost use Rattle.goal_links.specs.Beside.{beside};
 ghost use Rattle.goal_links.specs.Links.{var_at};
 ghost use Rattle.goal_links.specs.Mentions.{indices_on, places_on, vars_at};
 ghost use Rattle.goal_links.specs.declared.mentions.Mention.{Mention};
-ghost use Rattle.choice_stack.specs.Open.{Keeps, StayKept, MayComeBack, any_var, is_other, is_behind};
+ghost use Rattle.choice_stack.specs.Open.{KeepsNeighbours, StayKept, MayComeBack, any_var, is_other, is_behind};
 
 use choice_problem::{Var, is_before};
 use goal_links::{Mention, Mentions};
@@ -16,7 +17,8 @@ use plan_types::NoMemory;
 use std::alloc::Global;
 use std::marker::Model;
 
-/// The mentions of the targets of active demands, with an entry for each variable. Those that are open are linked in goal order.
+/// The mentions of the targets of active demands, with an entry for each variable. Those that are open are linked in
+/// goal order.
 #[derive(Drop)]
 pub(crate) struct Goals {
     mentions: Mentions,
@@ -60,7 +62,8 @@ impl Goals {
 
     pub(crate) fn entry_at(&self, index: usize) -> u64
         requires { index < length self.now.said + length self.now.spare }
-        ensures { (m : Mention) → slice_get (self.now.said ++ self.now.spare) index ≡ Some m → slice_get self.now.row.vars result ≡ Some m.var }
+        ensures { (m : Mention) → slice_get (self.now.said ++ self.now.spare) index ≡ Some m
+            → slice_get self.now.row.vars result ≡ Some m.var }
     {
         self.mentions.entry_at(index)
     }
@@ -100,6 +103,7 @@ impl Goals {
         ensures kept { StayKept any_var self.old.row self.new.row }
         ensures spare { IfOk result (λ ready. take ready self.new.spare ≡ take index self.old.spare ++ mention ∷ []) }
         ensures ready { IfOk result (λ ready. ready ≤ length self.new.spare) }
+        ensures err { OnErr result (self.new.spare ≡ self.old.spare) }
     {
         let ready = self.mentions.prepare(index, mention)?;
         Ok(ready)
@@ -110,7 +114,8 @@ impl Goals {
         requires { 0 < length self.old.spare }
         ensures said { self.new.said ≡ self.old.said ++ take 1 self.old.spare }
         ensures spare { self.new.spare ≡ drop 1 self.old.spare }
-        ensures vars { (n : ℕ) (v : Var) → slice_get self.old.row.vars n ≡ Some v → slice_get self.new.row.vars n ≡ Some v }
+        ensures vars { (n : ℕ) (v : Var) → slice_get self.old.row.vars n ≡ Some v
+            → slice_get self.new.row.vars n ≡ Some v }
         ensures linked { self.new.row.linked ≡ self.old.row.linked }
         ensures kept { StayKept any_var self.old.row self.new.row }
     {
@@ -119,8 +124,10 @@ impl Goals {
 
     /// Takes the last mention off.
     pub(crate) fn pop(&mut self) -> Option<Mention>
-        ensures last { MatchOption result ((self.old.said ≡ []) × (self.new.said ≡ [])) (λ last. self.old.said ≡ self.new.said ++ last ∷ []) }
-        ensures vars { (n : ℕ) (v : Var) → slice_get self.old.row.vars n ≡ Some v → slice_get self.new.row.vars n ≡ Some v }
+        ensures last { MatchOption result ((self.old.said ≡ []) × (self.new.said ≡ []))
+            (λ last. self.old.said ≡ self.new.said ++ last ∷ []) }
+        ensures vars { (n : ℕ) (v : Var) → slice_get self.old.row.vars n ≡ Some v
+            → slice_get self.new.row.vars n ≡ Some v }
         ensures linked { self.new.row.linked ≡ self.old.row.linked }
         ensures kept { StayKept any_var self.old.row self.new.row }
     {
@@ -143,7 +150,8 @@ impl Goals {
         requires closed { has self.old.row.linked (var_at self.old.row.vars entry) ≡ false }
         ensures said { self.new.said ≡ self.old.said }
         ensures spare { self.new.spare ≡ self.old.spare }
-        ensures linked { (u : Var) → has self.new.row.linked u ≡ (same_var (var_at self.old.row.vars entry) u || has self.old.row.linked u) }
+        ensures linked { (u : Var) → has self.new.row.linked u
+            ≡ (same_var (var_at self.old.row.vars entry) u || has self.old.row.linked u) }
         ensures kept { StayKept (is_other (var_at self.old.row.vars entry)) self.old.row self.new.row }
     {
         self.mentions.link(entry);
@@ -163,8 +171,9 @@ impl Goals {
         requires open { IsTrue (has self.old.row.linked (var_at self.old.row.vars entry)) }
         ensures said { self.new.said ≡ self.old.said }
         ensures spare { self.new.spare ≡ self.old.spare }
-        ensures linked { (u : Var) → has self.new.row.linked u ≡ (is_other (var_at self.old.row.vars entry) u && has self.old.row.linked u) }
-        ensures taken { Keeps self.new.row entry (var_at self.old.row.vars entry) (beside (same_var (var_at self.old.row.vars entry)) self.old.row.linked) }
+        ensures linked { (u : Var) → has self.new.row.linked u
+            ≡ (is_other (var_at self.old.row.vars entry) u && has self.old.row.linked u) }
+        ensures taken { KeepsNeighbours self.old.row self.new.row entry }
         ensures rising { IsTrue (is_rising self.old.row.linked) }
         ensures kept { StayKept any_var self.old.row self.new.row }
     {
@@ -175,7 +184,8 @@ impl Goals {
     pub(crate) fn put_back(&mut self, entry: u64)
         requires { MayComeBack self.old.row entry }
         ensures said { self.new.said ≡ self.old.said }
-        ensures linked { (u : Var) → has self.new.row.linked u ≡ (same_var (var_at self.old.row.vars entry) u || has self.old.row.linked u) }
+        ensures linked { (u : Var) → has self.new.row.linked u
+            ≡ (same_var (var_at self.old.row.vars entry) u || has self.old.row.linked u) }
         ensures kept { StayKept (is_other (var_at self.old.row.vars entry)) self.old.row self.new.row }
     {
         self.mentions.relink(entry);

@@ -1,4 +1,4 @@
-// What a choice adds to the demands of a stack: first all memory is taken that this wants, then what is ready is put on.
+// What a choice adds to the demands of a stack: first all memory for it is taken, then what is ready is put on.
 ghost use Rattle.std.specs.Prelude.{◌≡◌, ◌+◌, ◌<◌, ◌≤◌, ◌++◌, IfOk, List, length, take, drop, vec_capacity, vec_len};
 ghost use Rattle.goal_links.specs.Mentions.{mention_of};
 ghost use Rattle.choice_stack.specs.Open.{StayKept, any_var, is_chosen_in};
@@ -18,8 +18,8 @@ pub(crate) struct Ready {
     pub(crate) active: usize,
 }
 
-/// Takes the memory for more demands to be listed, and for those at some places to be active: of those that are listed, and
-/// of the new ones.
+/// Takes the memory for more demands to be listed, and for those at some places to be active: of those that are listed,
+/// and of the new ones.
 pub(crate) fn make_ready(
     listed: &mut Vec<Demand>,
     watchers: &mut Mentions,
@@ -35,7 +35,8 @@ pub(crate) fn make_ready(
     ensures said { goals.new.said ≡ goals.old.said }
     ensures linked { goals.new.row.linked ≡ goals.old.row.linked }
     ensures kept { StayKept any_var goals.old.row goals.new.row }
-    ensures ready { IfOk result (IsReady listed.new.items watchers.new.spare goals.new.spare demands.now woken.now fresh.now) }
+    ensures ready { IfOk result
+        (IsReady listed.new.items watchers.new.spare goals.new.spare demands.now woken.now fresh.now) }
     ensures room { IfOk result (λ ready. vec_len listed.new + length demands.now ≤ vec_capacity listed.new) }
 {
     let first = listed.len();
@@ -46,7 +47,8 @@ pub(crate) fn make_ready(
     Ok(Ready { waiting, active })
 }
 
-// Makes ready how demands wait for the variables of their conditions, which will be listed behind others; how many mentions that are.
+// Makes ready the mentions of the variables for which demands will wait, which will be listed behind others. It tells
+// how many mentions these are.
 fn ready_watchers(
     watchers: &mut Mentions,
     first: usize,
@@ -75,7 +77,8 @@ fn ready_watchers_of(
 ) -> Result<usize, NoMemory>
     requires { before ≤ length watchers.old.spare }
     ensures said { watchers.new.said ≡ watchers.old.said }
-    ensures waiting { IfOk result (λ count. take count watchers.new.spare ≡ take before watchers.old.spare ++ watchers_by place when.now) }
+    ensures waiting { IfOk result (λ count. take count watchers.new.spare
+        ≡ take before watchers.old.spare ++ watchers_by place when.now) }
     ensures within { IfOk result (λ count. count ≤ length watchers.new.spare) }
 {
     let mut count = before;
@@ -102,7 +105,8 @@ fn ready_goals(
     ensures said { goals.new.said ≡ goals.old.said }
     ensures linked { goals.new.row.linked ≡ goals.old.row.linked }
     ensures kept { StayKept any_var goals.old.row goals.new.row }
-    ensures active { IfOk result (λ count. take count goals.new.spare ≡ take before goals.old.spare ++ mentions_at first demands.now places.now) }
+    ensures active { IfOk result (λ count. take count goals.new.spare
+        ≡ take before goals.old.spare ++ mentions_at first demands.now places.now) }
     ensures within { IfOk result (λ count. count ≤ length goals.new.spare) }
 {
     let mut count = before;

@@ -1,8 +1,9 @@
 // What a state keeps of its choices, and how it is taken back.
-ghost use Rattle.std.specs.Prelude.{◌≡◌, ◌≢◌, ◌<◌, ◌↔◌, ◌++◌, [], ◌∷◌, true, None, Some, IfOk, OnOk, OnErr, IsTrue, MatchOption, List, is_none, ◌&&◌, length, take, map, find, slice_get};
+ghost use Rattle.std.specs.Prelude.{◌≡◌, ◌≢◌, ◌<◌, ◌↔◌, ◌++◌, ◌&&◌, [], ◌∷◌, List, true, IsTrue, None, Some, is_none};
+ghost use Rattle.std.specs.Prelude.{MatchOption, IfOk, OnOk, OnErr, length, take, map, find, slice_get};
 ghost use Rattle.std.specs.List.{Contains, list_any};
 ghost use Rattle.qualified_goals.specs.declared.variable.Var.{Var};
-ghost use Rattle.choice_problem.specs.Trail.{value_in};
+ghost use Rattle.choice_problem.specs.Trail.{AreOfDifferentVars, value_in};
 ghost use Rattle.choice_problem.specs.Active.{asks_for, vars_of_first, waiting};
 ghost use Rattle.choice_problem.specs.Conflict.{edges_of, refuses, set_of_first};
 ghost use Rattle.choice_problem.specs.ConflictSet.{first_behind, has, set_of};
@@ -83,7 +84,8 @@ impl Model for Stack {
 impl Stack {
     /// The stack before any choice, with demands that are listed and active.
     pub fn of(alloc: Global, roots: List<Demand>) -> Result<Stack, NoMemory>
-        ensures { IfOk result (λ stack. stack ≡ record { trail = []; listed = roots; active = roots; listed_before = []; active_before = [] }) }
+        ensures { IfOk result (λ stack. stack
+            ≡ record { trail = []; listed = roots; active = roots; listed_before = []; active_before = [] }) }
     {
         let trail = Trail::new(alloc);
         let mut listed = Vec::new(alloc);
@@ -113,7 +115,8 @@ impl Stack {
 
     /// The choices, in the order in which they were made.
     pub fn trail(&self) -> &Trail
-        ensures { result.now ≡ self.now.trail }
+        ensures trail { result.now ≡ self.now.trail }
+        ensures different { AreOfDifferentVars result.now }
     {
         &self.trail
     }
@@ -142,7 +145,8 @@ impl Stack {
 
     /// The choices alone.
     pub fn into_trail(self) -> List<Choice>
-        ensures { result ≡ self.trail }
+        ensures trail { result ≡ self.trail }
+        ensures different { AreOfDifferentVars result }
     {
         let Stack {
             trail,
@@ -169,8 +173,8 @@ impl Stack {
         self.goals.put_back(mark.entry);
     }
 
-    /// Makes a choice of an open variable, lists its demands, and makes active what turns Yes. All memory is taken before the
-    /// first change.
+    /// Makes a choice of an open variable, lists its demands, and makes active what turns Yes. All memory is taken
+    /// before the first change.
     pub fn make(&mut self, alloc: Global, addition: Addition) -> Result<(), NoMemory>
         requires new { value_in self.old.trail addition.choice.var ≡ None }
         requires asked { IsTrue (has (map (λ d. d.target) self.old.active) addition.choice.var) }
@@ -214,7 +218,8 @@ impl Stack {
         trail: &Values<'_>,
         v: Var,
     ) -> Result<Vec<usize>, NoMemory>
-        ensures demands { IfOk result (λ found. demands_at self.now.listed found.items ≡ turned trail.now v self.now.listed) }
+        ensures demands { IfOk result (λ found.
+            demands_at self.now.listed found.items ≡ turned trail.now v self.now.listed) }
         ensures within { IfOk result (λ found. AllBelow (length self.now.listed) found.items) }
     {
         let places = self.watchers.places(alloc, v)?;
@@ -224,7 +229,8 @@ impl Stack {
 }
 
 impl Stack {
-    /// The first variable behind one, or of all where none is given, that has no value and is the target of an active demand.
+    /// The first variable behind one, or of all where none is given, that has no value and is the target of an active
+    /// demand.
     pub fn open_after(&self, v: Option<Var>) -> Option<Var>
         ensures { result ≡ first_behind v (waiting self.now.trail self.now.active) }
     {
@@ -357,7 +363,8 @@ fn forget_last(goals: &mut Goals, trail: &Trail)
 }
 
 fn pop_mark(marks: &mut Vec<Mark>) -> Option<Mark>
-    ensures { MatchOption result ((marks.old.items ≡ []) × (marks.new.items ≡ [])) (λ last. marks.old.items ≡ marks.new.items ++ last ∷ []) }
+    ensures { MatchOption result ((marks.old.items ≡ []) × (marks.new.items ≡ []))
+        (λ last. marks.old.items ≡ marks.new.items ++ last ∷ []) }
 {
     marks.pop()
 }

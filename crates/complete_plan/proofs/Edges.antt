@@ -33,7 +33,7 @@ use Rattle.qualified_goals.specs.declared.variable.Var.{Var}
 use Rattle.qualified_goals.specs.Names.{Name}
 use Rattle.choice_problem.specs.Assignment.{is_made}
 use Rattle.choice_problem.specs.General.{Request, request_of}
-use Rattle.choice_problem.proofs.Trails.{is_made-from}
+use Rattle.choice_problem.proofs.TrailLemmas.{is_made-from}
 use Rattle.solver_index.specs.Allowed.{is_unit, unless_local}
 use Rattle.solver_index.specs.Places.{entry_at, number, places, rising}
 use Rattle.solver_index.proofs.ListLaws.{rising-below}

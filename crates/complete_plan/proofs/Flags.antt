@@ -31,7 +31,7 @@ use Rattle.choice_problem.specs.declared.problem.Demand.{Demand}
 use Rattle.choice_problem.specs.Assignment.{is_made}
 use Rattle.choice_problem.specs.General.{request_of}
 use Rattle.choice_problem.specs.Trail.{choice_of}
-use Rattle.choice_problem.proofs.Trails.{is_made-from}
+use Rattle.choice_problem.proofs.TrailLemmas.{is_made-from}
 use Rattle.solver_index.specs.Places.{flag_number}
 use Rattle.cabal_problem.specs.ListedDemands.{flag_demand, has_part, has_stanzas, stanza_if}
 use Rattle.cabal_problem.specs.Values.{package_var}

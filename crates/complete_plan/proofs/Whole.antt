@@ -18,7 +18,7 @@ use Rattle.choice_problem.specs.General.{Request, general}
 use Rattle.choice_problem.specs.Joined.{AreYesTogether}
 use Rattle.choice_problem.specs.Problem.{IsDemand, Lawful, Problem}
 use Rattle.choice_problem.specs.Valid.{IsWholeValid}
-use Rattle.choice_problem.proofs.Trails.{general-lawful, target-known}
+use Rattle.choice_problem.proofs.TrailLemmas.{general-lawful, target-known}
 use Rattle.solver_index.specs.Orders.{AreOrders}
 use Rattle.solver_index.specs.Places.{rising}
 use Rattle.cabal_problem.specs.Bound.{all_vars}

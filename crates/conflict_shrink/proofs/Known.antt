@@ -18,13 +18,13 @@ use Rattle.choice_problem.specs.ConflictSet.{has, set_of, union}
 use Rattle.choice_problem.specs.Conflict.{named_by, set_of_first, barred_set, refuses, refused_set, is_broken, broken_set, edges_of, lies_on_cycle, circular, set_of_all, cycle_set, first_clash, set_of_pair, agreement_set, value_sets, lasting_sets, conflict}
 use Rattle.choice_problem.specs.Guide.{IsGuide}
 use Rattle.choice_problem.specs.Answer.{Found, Failed, GaveUp, Past, Answer, Manner, gives_up, fails, exhausts, one_visited, one_exhausted, after_conflict, of_value, after_end, of_values, answer_from, nothing_yet, guided_answer, outcome_by, outcome_of}
-use Rattle.choice_problem.proofs.Sets.{has-contains, contains-has, has-set_of, has-union}
-use Rattle.choice_problem.proofs.Rules.{first-member}
-use Rattle.choice_problem.proofs.Trails.{value_in-made, is_made-is, target-known, demand-general, general-lawful}
-use Rattle.choice_problem.proofs.Active.{find-is, active-yes, active-demand, made-is, made-demand, IsOpen, open-plain, reason-of}
-use Rattle.choice_problem.proofs.Pairs.{clash-is}
-use Rattle.choice_problem.proofs.Conflicts.{all-front}
-use Rattle.choice_problem.proofs.Failures.{open-known, failures-sound}
+use Rattle.choice_problem.proofs.VariableSets.{has-contains, contains-has, has-set_of, has-union}
+use Rattle.choice_problem.proofs.FirstSets.{first-member}
+use Rattle.choice_problem.proofs.TrailLemmas.{value_in-made, is_made-is, target-known, demand-general, general-lawful}
+use Rattle.choice_problem.proofs.ActiveDemands.{find-is, active-yes, active-demand, made-is, made-demand, IsOpen, open-plain, reason-of}
+use Rattle.choice_problem.proofs.DemandPairs.{clash-is}
+use Rattle.choice_problem.proofs.ConflictLemmas.{all-front}
+use Rattle.choice_problem.proofs.FailureSets.{open-known, failures-sound}
 use Rattle.common_laws.specs.Lists.{contains-head, contains-tail, contains-none, contains-cases, contains-right, contains-append, contains-flat_map, contains-map, contains-filter, all-at, all-from}
 use Rattle.conflict_shrink.specs.Restricted.{CanBeShrunk}
 

@@ -14,10 +14,10 @@ use Rattle.choice_problem.specs.Holds.{IsEdge, HoldsWithin, AdmitsNone}
 use Rattle.choice_problem.specs.ConflictSet.{has}
 use Rattle.choice_problem.specs.Answer.{Found, Failed, GaveUp, answer_of}
 use Rattle.choice_problem.specs.Sound.{IsRightEnd}
-use Rattle.choice_problem.proofs.Trails.{is_made-is, demand-general, demand-plain, general-lawful, target-known}
-use Rattle.choice_problem.proofs.Alike.{path-map}
-use Rattle.choice_problem.proofs.Failures.{within, restrict}
-use Rattle.choice_problem.proofs.Ends.{ends-right}
+use Rattle.choice_problem.proofs.TrailLemmas.{is_made-is, demand-general, demand-plain, general-lawful, target-known}
+use Rattle.choice_problem.proofs.EquivalentProblems.{path-map}
+use Rattle.choice_problem.proofs.FailureSets.{within, restrict}
+use Rattle.choice_problem.proofs.SearchEnds.{ends-right}
 use Rattle.common_laws.specs.Lists.{all-at, all-from, contains-head, contains-filter, filter-contains}
 use Rattle.conflict_shrink.specs.Restricted.{stays_in, restricted, are_known, HasNoPlan, AdmitsByRestricted}
 use Rattle.conflict_shrink.specs.RestrictedLaws.{choice-in-whole, restricted_lawful}

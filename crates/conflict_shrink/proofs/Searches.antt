@@ -10,8 +10,8 @@ use Rattle.choice_problem.specs.Guide.{least}
 use Rattle.choice_problem.specs.Guides.{least-is-guide}
 use Rattle.choice_problem.specs.Answer.{Ended, Found, Failed, GaveUp, answer_of}
 use Rattle.choice_problem.specs.Sound.{IsValidEnd}
-use Rattle.choice_problem.proofs.Ends.{ends-valid}
-use Rattle.choice_problem.proofs.Limits.{limit-gives-up}
+use Rattle.choice_problem.proofs.SearchEnds.{ends-valid}
+use Rattle.choice_problem.proofs.SearchLimits.{limit-gives-up}
 use Rattle.conflict_shrink.specs.Restricted.{HasNoPlan}
 
 -- a trail that is whole and valid, or that there is none, or that there is a limit

@@ -10,7 +10,7 @@ use Rattle.qualified_goals.specs.SameVariable.{same_var-is, same_var-refl}
 use Rattle.choice_problem.specs.declared.problem.Choice.{Choice}
 use Rattle.choice_problem.specs.ConflictSet.{has, without}
 use Rattle.choice_problem.specs.Trail.{value_in, AreNew, before_any, one_more}
-use Rattle.choice_problem.proofs.Sets.{has-contains, contains-has}
+use Rattle.choice_problem.proofs.VariableSets.{has-contains, contains-has}
 use Rattle.common_laws.specs.Lists.{contains-head, contains-tail, contains-filter, filter-contains, filter-all}
 use Rattle.conflict_shrink.specs.Shrinking.{cut}
 

@@ -15,8 +15,8 @@ use Rattle.choice_problem.specs.Holds.{HoldsWithin, AdmitsNone}
 use Rattle.choice_problem.specs.Trail.{value_in, AreNew}
 use Rattle.choice_problem.specs.ConflictSet.{has, without, is_rising}
 use Rattle.choice_problem.specs.Answer.{Found, Failed, GaveUp}
-use Rattle.choice_problem.proofs.Failures.{within, restrict}
-use Rattle.choice_problem.proofs.Sets.{same-back, before-not-same, rising-tail, rising-below}
+use Rattle.choice_problem.proofs.FailureSets.{within, restrict}
+use Rattle.choice_problem.proofs.VariableSets.{same-back, before-not-same, rising-tail, rising-below}
 use Rattle.common_laws.specs.Lists.{all-at, all-from, contains-head, contains-tail, contains-none, contains-cases, contains-append, contains-filter}
 use Rattle.conflict_shrink.specs.declared.shrinking.Stage.{Stage}
 use Rattle.conflict_shrink.specs.declared.shrinking.Shrunk.{Shrunk}

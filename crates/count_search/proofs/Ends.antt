@@ -8,8 +8,8 @@ use Rattle.choice_problem.specs.Guide.{most_met}
 use Rattle.choice_problem.specs.Guides.{most-met-is-guide}
 use Rattle.choice_problem.specs.Answer.{Ended, Found, Failed, GaveUp, Answer, guided_answer, outcome_by, outcome_of, printed}
 use Rattle.choice_problem.specs.Sound.{IsValidEnd}
-use Rattle.choice_problem.proofs.Ends.{ends-valid}
-use Rattle.choice_problem.proofs.Limits.{limit-gives-up}
+use Rattle.choice_problem.proofs.SearchEnds.{ends-valid}
+use Rattle.choice_problem.proofs.SearchLimits.{limit-gives-up}
 use Rattle.count_search.specs.Meaning.{MeansCounted}
 
 module _ (p : Problem) (lawful : Lawful p) where

@@ -14,8 +14,8 @@ use Rattle.choice_problem.specs.Trail.{demands_after, open_vars}
 use Rattle.choice_problem.specs.ConflictSet.{has, is_rising, first_of}
 use Rattle.choice_problem.specs.Guide.{cap, score, better, most_met}
 use Rattle.choice_problem.specs.Guides.{most-met-is-guide}
-use Rattle.choice_problem.proofs.Trails.{open-unchosen, targets_open}
-use Rattle.choice_problem.proofs.Sets.{has-contains, rising-tail, rising-below, rising-set_of}
+use Rattle.choice_problem.proofs.TrailLemmas.{open-unchosen, targets_open}
+use Rattle.choice_problem.proofs.VariableSets.{has-contains, rising-tail, rising-below, rising-set_of}
 use Rattle.count_search.specs.declared.ranks.Rank.{Rank}
 use Rattle.count_search.specs.Ranks.{rank_cmp, has_rank, rank_of, AreScored}
 use Rattle.count_search.proofs.Orders.{either, rank-less, first-rank, none-first}

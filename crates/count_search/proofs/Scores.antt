@@ -11,9 +11,9 @@ use Rattle.choice_problem.specs.Trail.{value_in}
 use Rattle.choice_problem.specs.Table.{entry, with_entry}
 use Rattle.choice_problem.specs.ConflictSet.{has, is_rising}
 use Rattle.choice_problem.specs.Guide.{cap, score}
-use Rattle.choice_problem.proofs.Trails.{none-is, value_in-none, value_in-some}
-use Rattle.choice_problem.proofs.Active.{value_in-last}
-use Rattle.choice_problem.proofs.Sets.{rising-tail, rising-below, has-contains, before-not-same}
+use Rattle.choice_problem.proofs.TrailLemmas.{none-is, value_in-none, value_in-some}
+use Rattle.choice_problem.proofs.ActiveDemands.{value_in-last}
+use Rattle.choice_problem.proofs.VariableSets.{rising-tail, rising-below, has-contains, before-not-same}
 use Rattle.common_laws.specs.Lists.{contains-head, contains-right}
 use Rattle.count_search.specs.declared.ranks.Rank.{Rank}
 use Rattle.count_search.specs.Ranks.{same_rank, has_rank, rank_of, is_rank_of, is_ranked, noted, AreScored, raised, raised_all}

@@ -15,12 +15,12 @@ use Rattle.choice_problem.specs.General.{owner_of}
 use Rattle.choice_problem.specs.Trail.{value_in}
 use Rattle.choice_problem.specs.Conflict.{disagree, pairs_behind, first_clash}
 use Rattle.common_laws.specs.Lists.{contains-head, contains-none, contains-map, map-contains, contains-flat_map, flat_map-contains}
-use Rattle.choice_problem.proofs.Pairs.{disagree-are, are-disagreeing, disagree-back, disagree-self, no-clash}
+use Rattle.choice_problem.proofs.DemandPairs.{disagree-are, are-disagreeing, disagree-back, disagree-self, no-clash}
 use Rattle.demand_agreement.specs.declared.clash.Clash.{Clash}
 use Rattle.demand_agreement.specs.Places.{no_demand, demand_at, AllBelow}
 use Rattle.demand_agreement.specs.Clashes.{AreSuspects, clashing, clash_of, clashes_at, clashes, least}
-use Rattle.demand_agreement.proofs.Below.{below-one}
-use Rattle.demand_agreement.proofs.Members.{at-get, get-at, get-front, IsApart, clashing-is, clashing-has}
+use Rattle.demand_agreement.proofs.NumberBounds.{below-one}
+use Rattle.demand_agreement.proofs.Disagreements.{at-get, get-at, get-front, IsApart, clashing-is, clashing-has}
 use Rattle.demand_agreement.proofs.Least.{IsAtMost, least-is, least-none}
 
 -- the first that passes stands at a place before which none does

@@ -1,4 +1,4 @@
-pub mod Below
-pub mod Members
+pub mod NumberBounds
+pub mod Disagreements
 pub mod Least
 pub mod First

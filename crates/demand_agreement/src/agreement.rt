@@ -6,7 +6,8 @@ ghost use Rattle.choice_problem.specs.Assignment.{is_yes};
 ghost use Rattle.choice_problem.specs.Conflict.{agreement_set};
 ghost use Rattle.choice_problem.specs.General.{owner_of};
 ghost use Rattle.choice_problem.specs.Trail.{value_in};
-ghost use Rattle.demand_agreement.specs.Clashes.{AreSuspects, apart_by, apart_from, clashes, clashes_at, clashing, is_first, set_named};
+ghost use Rattle.demand_agreement.specs.Clashes.{AreSuspects, apart_by, apart_from, clashes, clashes_at, clashing};
+ghost use Rattle.demand_agreement.specs.Clashes.{is_first, set_named};
 ghost use Rattle.demand_agreement.specs.Places.{AllBelow, demand_at, places_on};
 
 use crate::clash::{Clash, clash_of, least};
@@ -28,8 +29,8 @@ pub trait Asked {
         ensures { IfOk result (λ found. found.items ≡ places_on v (demands self.now)) };
 }
 
-/// The set of the variables that the first two demands name which must agree and don't. One of any two such demands stands
-/// at one of the places.
+/// The set of the variables that the first two demands name which must agree and don't. One of any two such demands
+/// stands at one of the places.
 pub fn agreement_set_of<A: Asked>(
     alloc: Global,
     asked: &A,
@@ -105,7 +106,8 @@ fn clashing<A: Asked>(
     trail: &Values<'_>,
     demand: &Demand,
 ) -> Result<Vec<usize>, NoMemory>
-    ensures { IfOk result (λ found. found.items ≡ clashing trail.now (A.demands asked.now) (owner_of demand.now.when) demand.now.target) }
+    ensures { IfOk result (λ found. found.items
+        ≡ clashing trail.now (A.demands asked.now) (owner_of demand.now.when) demand.now.target) }
 {
     match demand.when.as_slice() {
         [owner, ..] => apart_from(alloc, asked, trail, *owner, demand.target),
@@ -133,7 +135,7 @@ fn apart_from<A: Asked>(
     Ok(found)
 }
 
-// The places of the demands that a twin owns on its own part. They are looked at only where that has a value that differs.
+// The places of the demands that a twin owns on its own part, looked at only where that part has a value that differs.
 fn push_apart<A: Asked>(
     alloc: Global,
     found: &mut Vec<usize>,
@@ -160,7 +162,8 @@ fn push_owned<A: Asked>(
     owner: Choice,
 ) -> Result<(), NoMemory>
     requires { AllBelow (length (A.demands asked.now)) places.now }
-    ensures { OnOk result (found.new.items ≡ found.old.items ++ filter (λ k. is_first owner (demand_at (A.demands asked.now) k).when) places.now) }
+    ensures { OnOk result (found.new.items ≡ found.old.items
+        ++ filter (λ k. is_first owner (demand_at (A.demands asked.now) k).when) places.now) }
 {
     for place in places {
         if owns_at(asked, *place, owner) {

@@ -1,5 +1,6 @@
-//! Demands that must agree: the set of the variables that the first two name whose targets have different values. They are
-//! looked for from some demands on, among what twins of their owners ask for, and compared only where the targets differ.
+//! Demands that must agree: the set of the variables that the first two name whose targets have different values. The
+//! search starts at some demands, looks among what twins of their owners ask for, and compares only where the targets
+//! differ.
 #![tactic(auto)]
 
 mod agreement;

@@ -10,11 +10,11 @@ use Rattle.qualified_goals.specs.Variable.{same_var}
 use Rattle.choice_problem.specs.ConflictSet.{has}
 use Rattle.qualified_goals.specs.SameVariable.{same_var-is, same_var-refl}
 use Rattle.common_laws.specs.Lists.{without}
-use Rattle.choice_problem.proofs.Sets.{has-append}
+use Rattle.choice_problem.proofs.VariableSets.{has-append}
 use Rattle.demand_cycles.specs.Side.{are_once, with_key, with_keys}
 use Rattle.std.proofs.Math.Bool.{or-false}
 use Rattle.std.proofs.Math.Bool.{or_assoc}
-use Rattle.goal_links.proofs.Keys.{found-has}
+use Rattle.goal_links.proofs.VariableKeys.{found-has}
 
 one-more : (keys : List Var) (v : Var) → are_once keys ≡ true → has keys v ≡ false → are_once (keys ++ v ∷ []) ≡ true
 one-more [] v h k = refl

@@ -11,9 +11,9 @@ use Rattle.choice_problem.specs.ConflictSet.{has}
 use Rattle.choice_problem.specs.Conflict.{Edge, leads}
 use Rattle.qualified_goals.specs.SameVariable.{same_var-is}
 use Rattle.common_laws.specs.Lists.{contains-left, contains-right, map-contains, any-from, any-at}
-use Rattle.choice_problem.proofs.Sets.{has-contains, contains-has}
-use Rattle.choice_problem.proofs.Paths.{Way, start, step, leads-way, way-leads}
-use Rattle.goal_links.proofs.Mapped.{get-contains}
+use Rattle.choice_problem.proofs.VariableSets.{has-contains, contains-has}
+use Rattle.choice_problem.proofs.EdgePaths.{Way, start, step, leads-way, way-leads}
+use Rattle.goal_links.proofs.NamedItems.{get-contains}
 use Rattle.demand_cycles.specs.Cycles.{HasEdge, AreAncestors, leads_to_any}
 use Rattle.demand_cycles.specs.Side.{IsPartReached, with_keys}
 use Rattle.demand_cycles.proofs.Keys.{with_keys-once, has-with_keys, with_keys-front, once-within}

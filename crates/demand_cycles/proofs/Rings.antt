@@ -13,7 +13,7 @@ use Rattle.choice_problem.specs.Conflict.{Edge, leads, edges_from, edges_by, edg
 use Rattle.qualified_goals.specs.Variable.{same_var}
 use Rattle.qualified_goals.specs.SameVariable.{same_var-is, same_var-refl}
 use Rattle.common_laws.specs.Lists.{contains-head, contains-none, contains-cases, contains-append, contains-right, contains-flat_map, flat_map-contains, contains-filter, filter-none, filter-contains, any-from, any-at, drop_at}
-use Rattle.choice_problem.proofs.Paths.{Way, start, step, way-join, way-edge, leads-way, way-leads}
+use Rattle.choice_problem.proofs.EdgePaths.{Way, start, step, way-join, way-edge, leads-way, way-leads}
 use Rattle.demand_cycles.specs.Cycles.{HasEdge, leads_to_any, first_of_condition, owner_of, owners_on_cycles}
 
 -- the edge of a condition and a target

@@ -9,7 +9,7 @@ use Rattle.qualified_goals.specs.declared.variable.Var.{Var}
 use Rattle.choice_problem.specs.ConflictSet.{has}
 use Rattle.choice_problem.specs.Conflict.{Edge}
 use Rattle.common_laws.specs.Lists.{contains-head, contains-none, contains-cases, contains-map, map-contains}
-use Rattle.choice_problem.proofs.Paths.{Way, start, step, way-join}
+use Rattle.choice_problem.proofs.EdgePaths.{Way, start, step, way-join}
 use Rattle.demand_cycles.specs.Cycles.{HasEdge, leads_to_any}
 use Rattle.demand_cycles.specs.declared.side.Side.{Side}
 use Rattle.demand_cycles.specs.Side.{IsSide, IsPartReached, reversed_edge, reversed, with_keys}

@@ -10,7 +10,7 @@ use Rattle.choice_problem.specs.declared.problem.Demand.{Demand}
 use Rattle.choice_problem.specs.ConflictSet.{has}
 use Rattle.choice_problem.specs.Conflict.{Edge, edges_of, lies_on_cycle, circular}
 use Rattle.common_laws.specs.Lists.{contains-head, contains-none, contains-cases, contains-append, contains-left, contains-right, any-from, any-at}
-use Rattle.choice_problem.proofs.Paths.{Way, start, way-join}
+use Rattle.choice_problem.proofs.EdgePaths.{Way, start, way-join}
 use Rattle.demand_cycles.specs.declared.ring.Ring.{Ring}
 use Rattle.demand_cycles.specs.Cycles.{owner_of, owners_on_cycles}
 use Rattle.demand_cycles.specs.Ring.{AreRings, IsRingOf, Tells, any_closes, closes, closes_from}

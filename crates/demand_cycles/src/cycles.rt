@@ -1,5 +1,6 @@
 // The cycles among demands.
-ghost use Rattle.std.specs.Prelude.{◌≡◌, ◌+◌, ◌<◌, ◌↔◌, [], ◌∷◌, ◌++◌, true, Some, IfOk, OnOk, IfSome, List, length, take, drop, slice_get, option_to_list, flat_map};
+ghost use Rattle.std.specs.Prelude.{◌≡◌, ◌+◌, ◌<◌, ◌↔◌, ◌++◌, [], ◌∷◌, List, true, Some, IfSome, IfOk, OnOk};
+ghost use Rattle.std.specs.Prelude.{length, take, drop, slice_get, option_to_list, flat_map};
 ghost use Rattle.std.specs.List.{Contains};
 ghost use Rattle.qualified_goals.specs.declared.variable.Var.{Var};
 ghost use Rattle.choice_problem.specs.declared.problem.Demand.{Demand};
@@ -30,11 +31,13 @@ pub trait Graph {
 
     /// The variables that edges to this one leave.
     fn sources(&self, alloc: Global, to: Var) -> Result<List<Var>, NoMemory>
-        ensures { IfOk result (λ found. (v : Var) → (Contains found v) ↔ (HasEdge (edges_of (demands self.now)) v to)) };
+        ensures { IfOk result (λ found. (v : Var) →
+            (Contains found v) ↔ (HasEdge (edges_of (demands self.now)) v to)) };
 
     /// The variables that edges from this one enter.
     fn targets(&self, alloc: Global, from: Var) -> Result<List<Var>, NoMemory>
-        ensures { IfOk result (λ found. (v : Var) → (Contains found v) ↔ (HasEdge (edges_of (demands self.now)) from v)) };
+        ensures { IfOk result (λ found. (v : Var) →
+            (Contains found v) ↔ (HasEdge (edges_of (demands self.now)) from v)) };
 
     /// Whether a variable is chosen. Edges leave only those.
     fn is_chosen(&self, v: Var) -> bool
@@ -63,7 +66,8 @@ pub fn cycle_set_of<G: Graph>(
 
 // The owners of the demands from a place on that lie on a cycle.
 fn new_owners<G: Graph>(alloc: Global, graph: &G, before: usize) -> Result<Vec<Var>, NoMemory>
-    ensures { IfOk result (λ owners. owners.items ≡ owners_on_cycles (edges_of (G.demands graph.now)) (drop before (G.demands graph.now))) }
+    ensures { IfOk result (λ owners. owners.items
+        ≡ owners_on_cycles (edges_of (G.demands graph.now)) (drop before (G.demands graph.now))) }
 {
     let mut owners = Vec::new(alloc);
     let mut last = None;
@@ -142,7 +146,7 @@ fn owner_of(demand: &Demand) -> Option<Var>
     }
 }
 
-// Whether the edge of a demand lies on a cycle. What was found against the edges serves again where the owner is the same.
+// Whether the edge of a demand lies on a cycle. What the search against the edges found serves again for the same owner.
 fn is_on_cycle<G: Graph>(
     alloc: Global,
     graph: &G,
@@ -176,8 +180,8 @@ fn side_of(alloc: Global, last: Option<Side>, end: Var) -> Result<Side, NoMemory
     }
 }
 
-// Whether edges lead from a variable to the end of a side, which goes on as far as it takes to tell. The search along the
-// edges goes first: much may lead to the owner of a demand whose target needs little.
+// Whether edges lead from a variable to the end of a side, which grows until that is known. The search along the edges
+// goes first: much may lead to the owner of a demand whose target needs little.
 fn is_led_to<G: Graph>(
     alloc: Global,
     graph: &G,
@@ -185,7 +189,8 @@ fn is_led_to<G: Graph>(
     from: Var,
 ) -> Result<bool, NoMemory>
     requires { IsSide (edges_of (G.demands graph.now)) back.old }
-    ensures is_led { IfOk result (λ is_led. is_led ≡ leads_to_any (edges_of (G.demands graph.now)) (back.old.end ∷ []) from) }
+    ensures is_led { IfOk result (λ is_led.
+        is_led ≡ leads_to_any (edges_of (G.demands graph.now)) (back.old.end ∷ []) from) }
     ensures back { OnOk result (IsSide (edges_of (G.demands graph.now)) back.new) }
 {
     let mut ahead = Side::new(alloc, from)?;

@@ -1,6 +1,6 @@
-//! The cycles among demands: the set of the variables that the demands on cycles name. It is looked for from those demands
-//! that are new, along the edges from owners to targets and against them in turn. Where there are some, what their owners lead
-//! to, and what leads to these, tells of each demand whether it lies on one.
+//! The cycles among demands: the set of the variables that the demands on cycles name. The search starts at the demands
+//! that are new, and follows the edges from owners to targets, and back, in turn. Where a new demand lies on a cycle, what
+//! the owners lead to, and what leads to them, tells of each demand whether it lies on one.
 #![tactic(auto)]
 
 mod cycles;

@@ -6,8 +6,8 @@ use crate::side::is_around;
 use choice_problem::Var;
 use indexmap::IndexSet;
 
-/// What a variable leads to, and what leads to it. An edge lies on a cycle through the variable where that leads to the start
-/// of the edge, and the end of the edge to the variable.
+/// What a variable leads to, and what leads to it. An edge lies on a cycle through the variable where the variable leads
+/// to the start of the edge, and the end of the edge to the variable.
 pub(crate) struct Ring {
     pub(crate) ahead: IndexSet<Var>,
     pub(crate) back: IndexSet<Var>,

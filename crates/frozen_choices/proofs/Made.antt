@@ -24,7 +24,7 @@ use Rattle.qualified_goals.specs.Names.{Name, NameTable}
 use Rattle.choice_problem.specs.declared.problem.Choice.{Choice}
 use Rattle.choice_problem.specs.Trail.{choice_of, value_in}
 use Rattle.choice_problem.specs.Twins.{is_of_package, is_whole}
-use Rattle.choice_problem.proofs.Trails.{value_in-made}
+use Rattle.choice_problem.proofs.TrailLemmas.{value_in-made}
 use Rattle.solver_index.specs.Places.{entry_at, rising}
 use Rattle.solver_index.proofs.ListLaws.{rising-below}
 use Rattle.cabal_problem.specs.Values.{package_var}

@@ -31,7 +31,7 @@ use Rattle.choice_problem.specs.Holds.{HoldsWithin, IsAsked}
 use Rattle.choice_problem.specs.Problem.{IsChoice}
 use Rattle.choice_problem.specs.Trail.{choice_of, demands_after, next_var, trail_from, with_next, with_value}
 use Rattle.choice_problem.specs.Valid.{IsWholeValid}
-use Rattle.choice_problem.proofs.Trails.{Passes, is_made-from, next-open, open-is, passes-push}
+use Rattle.choice_problem.proofs.TrailLemmas.{Passes, is_made-from, next-open, open-is, passes-push}
 use Rattle.solver_index.specs.AllowedVersions.{allowed_versions}
 use Rattle.constraint_set.specs.Bars.{is_number}
 use Rattle.solver_index.specs.Places.{entry_at, flag_number, no_entry, rising}

@@ -9,7 +9,7 @@ use Rattle.qualified_goals.specs.Names.{NameTable}
 use Rattle.choice_problem.specs.declared.problem.Choice.{Choice}
 use Rattle.choice_problem.specs.Trail.{AreNew, before_any, one_more, value_in}
 use Rattle.choice_problem.specs.Valid.{IsWholeValid}
-use Rattle.choice_problem.proofs.Trails.{Passes, value_in-kept, value_in-new}
+use Rattle.choice_problem.proofs.TrailLemmas.{Passes, value_in-kept, value_in-new}
 use Rattle.cabal_problem.specs.WholeDemands.{whole_problem}
 use Rattle.frozen_choices.specs.Plain.{AreInDomains}
 

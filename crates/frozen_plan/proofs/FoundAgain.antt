@@ -19,8 +19,8 @@ use Rattle.choice_problem.specs.Problem.{Lawful, Problem}
 use Rattle.choice_problem.specs.Sound.{IsRightEnd, IsValidEnd}
 use Rattle.choice_problem.specs.Trail.{AreNew, trail_of, value_in}
 use Rattle.choice_problem.specs.Valid.{IsFirst, IsWholeValid}
-use Rattle.choice_problem.proofs.First.{passes-all}
-use Rattle.choice_problem.proofs.Trails.{Passes, passes-trail}
+use Rattle.choice_problem.proofs.FirstAssignment.{passes-all}
+use Rattle.choice_problem.proofs.TrailLemmas.{Passes, passes-trail}
 use Rattle.solver_index.specs.Orders.{AreOrders}
 use Rattle.cabal_problem.specs.Problem.{IsProblemOf, problem_of}
 use Rattle.cabal_problem.specs.WholeDemands.{whole_problem}

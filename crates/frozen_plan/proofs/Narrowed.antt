@@ -14,9 +14,9 @@ use Rattle.choice_problem.specs.Problem.{IsChoice, IsDemand}
 use Rattle.choice_problem.specs.Trail.{choice_of, demands_after, next_var, open_vars, opens, trail_from, trail_of, value_in, with_next, with_value}
 use Rattle.choice_problem.specs.Twins.{must_agree}
 use Rattle.choice_problem.specs.Valid.{ComesBefore, IsEarlier, IsFirst, IsWholeValid}
-use Rattle.choice_problem.proofs.Alike.{path-map}
-use Rattle.choice_problem.proofs.Sets.{set-alike}
-use Rattle.choice_problem.proofs.Trails.{targets_open}
+use Rattle.choice_problem.proofs.EquivalentProblems.{path-map}
+use Rattle.choice_problem.proofs.VariableSets.{set-alike}
+use Rattle.choice_problem.proofs.TrailLemmas.{targets_open}
 use Rattle.frozen_plan.specs.Narrower.{AddsNothing, BarsNoneOf, IsNarrowed, IsNarrower}
 use Rattle.frozen_plan.proofs.Lists.{zip-append, zip-flat, zip-left, zip-right}
 

@@ -27,7 +27,7 @@ use Rattle.choice_problem.specs.Assignment.{is_made}
 use Rattle.choice_problem.specs.General.{General, Request, request_of}
 use Rattle.choice_problem.specs.Trail.{AreNew, value_in}
 use Rattle.choice_problem.specs.Valid.{IsWholeValid}
-use Rattle.choice_problem.proofs.Trails.{is_made-is, value_in-made}
+use Rattle.choice_problem.proofs.TrailLemmas.{is_made-is, value_in-made}
 use Rattle.constraint_set.specs.Bars.{requires_value, excludes, is_boot, applies, is_on, names_flag, requires_stanza}
 use Rattle.solver_index.specs.AllowedVersions.{allowed_versions}
 use Rattle.solver_index.specs.Places.{flag_number}

@@ -7,27 +7,27 @@ use Rattle.std.proofs.lemmas.List.{length-set, get_or-set_same, get_or-set_other
 use Rattle.std.proofs.lemmas.Bool.{false≢true}
 use Rattle.std.proofs.lemmas.List.{get_or_default}
 use Rattle.common_laws.specs.Lists.{contains-head, contains-tail, contains-left, contains-right, contains-append, contains-none, contains-cases}
-use Rattle.goal_links.specs.declared.ring.Node.{Node}
+use Rattle.goal_links.specs.declared.ring.RingNode.{RingNode}
 use Rattle.goal_links.specs.declared.chains.Cell.{Cell}
 use Rattle.goal_links.specs.Beside.{last_of, first_of, behind_first}
 use Rattle.goal_links.specs.Ring.{IsPath, IsRing, no_node, ring_of, next_at, prev_at, with_place, IsWithin}
 use Rattle.goal_links.specs.Row.{has_node, without_node, behind}
 use Rattle.goal_links.specs.Chains.{Chained, no_cell, cell_at, chain_at, chain_with, without_last, shortened, ends_at, chains_of, AreChains}
-use Rattle.goal_links.proofs.Paths.{path-stays, path-last, path-first, last-contains, not-last, not-first}
+use Rattle.goal_links.proofs.Paths.{path-stays, path-last, path-first, not-last, not-first}
 use Rattle.goal_links.proofs.Rings.{has-contains, ring-once, ring-within, ring-is}
 use Rattle.goal_links.proofs.Nodes.{not-in, hasn't, contains-has, without-parted, apart-front, apart-back}
 use Rattle.goal_links.proofs.Rows.{row-linked, row-unlinked, written, AreSame, same-elsewhere, gap-within, node-parted, sides-within, linked-next, ring-pushed}
 
 -- the chain of an entry is the ring from its ends
-pub chain-is : (ends nodes : List Node) (entry : ℕ) → entry < length ends → chain_at (chains_of ends nodes) entry ≡ ring_of (ends_at ends entry) nodes
+pub chain-is : (ends nodes : List RingNode) (entry : ℕ) → entry < length ends → chain_at (chains_of ends nodes) entry ≡ ring_of (ends_at ends entry) nodes
 chain-is ends nodes entry h = get_or-map (λ e. ring_of e nodes) ends entry no_node [] h
 
 -- an entry that has a chain has ends
-pub chain-fits : (ends nodes : List Node) (chains : List (List ℕ)) (entry : ℕ) → chains_of ends nodes ≡ chains → entry < length chains → entry < length ends
-chain-fits ends nodes chains entry e h = omega (arith, h, ap length e, length-map ends (λ (x : Node). ring_of x nodes))
+pub chain-fits : (ends nodes : List RingNode) (chains : List (List ℕ)) (entry : ℕ) → chains_of ends nodes ≡ chains → entry < length chains → entry < length ends
+chain-fits ends nodes chains entry e h = omega (arith, h, ap length e, length-map ends (λ (x : RingNode). ring_of x nodes))
 
 -- one chain changes, and the nodes of others don't
-pub chain-changed : (ends nodes nodes2 : List Node) (cells : List Cell) (entry : ℕ) (end2 : Node) (ns2 : List ℕ) → AreChains ends nodes cells → entry < length ends
+pub chain-changed : (ends nodes nodes2 : List RingNode) (cells : List Cell) (entry : ℕ) (end2 : RingNode) (ns2 : List ℕ) → AreChains ends nodes cells → entry < length ends
     → length nodes2 ≡ length nodes → IsRing end2 nodes2 (ring_of end2 nodes2) → ring_of end2 nodes2 ≡ ns2
     → ((k : ℕ) → Contains ns2 k → (cell_at cells k).entry ≡ entry)
     → ((k : ℕ) → ((cell_at cells k).entry ≡ entry → ⊥) → AreSame (get_or nodes2 k no_node) (get_or nodes k no_node))
@@ -48,19 +48,19 @@ chain-changed ends nodes nodes2 cells entry end2 ns2 h within len ring is owned 
       record {
         paired = h.paired ∙ sym len;
         rings = λ e lt. elim (eqb e entry) as (λ b. eqb e entry ≡ b → IsRing (ends_at ends2 e) nodes2 (ring_of (ends_at ends2 e) nodes2)) [
-          | true ↦ λ i. subst (λ (x : Node). IsRing x nodes2 (ring_of x nodes2)) (sym (ap (ends_at ends2) (eqb-true e entry i) ∙ here)) ring
+          | true ↦ λ i. subst (λ (x : RingNode). IsRing x nodes2 (ring_of x nodes2)) (sym (ap (ends_at ends2) (eqb-true e entry i) ∙ here)) ring
           | false ↦ λ i.
               let ne : e ≡ entry → ⊥ = λ j. false≢true (sym i ∙ eq-eqb e entry j) in
               let lt2 : e < length ends = omega (arith, lt, lens) in
-              subst (λ (x : Node). IsRing x nodes2 (ring_of x nodes2)) (sym (there e ne))
+              subst (λ (x : RingNode). IsRing x nodes2 (ring_of x nodes2)) (sym (there e ne))
               (subst (λ l. IsRing (ends_at ends e) nodes2 l) (sym (rings2 e lt2 ne)) (stays e lt2 ne))
         ] refl;
         owned = λ e k lt c. elim (eqb e entry) as (λ b. eqb e entry ≡ b → (cell_at cells k).entry ≡ e) [
-          | true ↦ λ i. let j = eqb-true e entry i in owned k (subst (λ l. Contains l k) (ap (λ (x : Node). ring_of x nodes2) (ap (ends_at ends2) j ∙ here) ∙ is) c) ∙ sym j
+          | true ↦ λ i. let j = eqb-true e entry i in owned k (subst (λ l. Contains l k) (ap (λ (x : RingNode). ring_of x nodes2) (ap (ends_at ends2) j ∙ here) ∙ is) c) ∙ sym j
           | false ↦ λ i.
               let ne : e ≡ entry → ⊥ = λ j. false≢true (sym i ∙ eq-eqb e entry j) in
               let lt2 : e < length ends = omega (arith, lt, lens) in
-              h.owned e k lt2 (subst (λ l. Contains l k) (ap (λ (x : Node). ring_of x nodes2) (there e ne) ∙ rings2 e lt2 ne) c)
+              h.owned e k lt2 (subst (λ l. Contains l k) (ap (λ (x : RingNode). ring_of x nodes2) (there e ne) ∙ rings2 e lt2 ne) c)
         ] refl;
         entries = λ k lt. let old = h.entries k lt in omega (arith, old, lens);
       },
@@ -74,18 +74,18 @@ chain-changed ends nodes nodes2 cells entry end2 ns2 h within len ring is owned 
             | true ↦ λ i.
                 let j = eqb-true e entry i in
                 let fits : entry < length (chains_of ends nodes) = omega (arith, within, length-map ends (λ e. ring_of e nodes)) in
-                ap (λ (x : Node). ring_of x nodes2) (ap (ends_at ends2) j ∙ here) ∙ is
+                ap (λ (x : RingNode). ring_of x nodes2) (ap (ends_at ends2) j ∙ here) ∙ is
                 ∙ sym (get_or-set_same (chains_of ends nodes) entry ns2 [] fits) ∙ ap (λ m. get_or (set (chains_of ends nodes) entry ns2) m []) (sym j)
             | false ↦ λ i.
                 let ne : e ≡ entry → ⊥ = λ j. false≢true (sym i ∙ eq-eqb e entry j) in
-                ap (λ (x : Node). ring_of x nodes2) (there e ne) ∙ rings2 e in1 ne
+                ap (λ (x : RingNode). ring_of x nodes2) (there e ne) ∙ rings2 e in1 ne
                 ∙ sym (get_or-set_other (chains_of ends nodes) entry e ns2 [] ne ∙ get_or-map (λ e. ring_of e nodes) ends e no_node [] in1)
           ] refl),
     )
 
 -- the ends and the nodes of one entry more
 
-alone-ring : (nodes : List Node) → ring_of no_node nodes ≡ []
+alone-ring : (nodes : List RingNode) → ring_of no_node nodes ≡ []
 alone-ring nodes = ring-is no_node nodes [] (refl, refl)
 
 at-push : {X : Type 0} (xs : List X) (x : X) (k : ℕ) (d : X) → k < length (xs ++ x ∷ []) → ((k < length xs) × (get_or (xs ++ x ∷ []) k d ≡ get_or xs k d)) ⊎ ((k ≡ length xs) × (get_or (xs ++ x ∷ []) k d ≡ x))
@@ -98,31 +98,31 @@ at-push (y ∷ xs) x (suc k) d h =
       | inr p ↦ inr (ap suc p.0, p.1)
     ]
 
-pub entry-pushed : (ends ends2 nodes : List Node) (cells : List Cell) → ends2 ≡ ends ++ no_node ∷ [] → AreChains ends nodes cells
+pub entry-pushed : (ends ends2 nodes : List RingNode) (cells : List Cell) → ends2 ≡ ends ++ no_node ∷ [] → AreChains ends nodes cells
     → AreChains ends2 nodes cells × (chains_of ends2 nodes ≡ chains_of ends nodes ++ [] ∷ [])
 entry-pushed ends ends2 nodes cells e h = (
-  subst (λ (l : List Node). AreChains l nodes cells) (sym e) (record {
+  subst (λ (l : List RingNode). AreChains l nodes cells) (sym e) (record {
     paired = h.paired;
     rings = λ n lt. elim (at-push ends no_node n no_node lt) [
-      | inl p ↦ subst (λ (x : Node). IsRing x nodes (ring_of x nodes)) (sym p.1) (h.rings n p.0)
-      | inr p ↦ subst (λ (x : Node). IsRing x nodes (ring_of x nodes)) (sym p.1) (subst (λ l. IsRing no_node nodes l) (sym (alone-ring nodes)) (refl, refl))
+      | inl p ↦ subst (λ (x : RingNode). IsRing x nodes (ring_of x nodes)) (sym p.1) (h.rings n p.0)
+      | inr p ↦ subst (λ (x : RingNode). IsRing x nodes (ring_of x nodes)) (sym p.1) (subst (λ l. IsRing no_node nodes l) (sym (alone-ring nodes)) (refl, refl))
     ];
     owned = λ n k lt c. elim (at-push ends no_node n no_node lt) [
-      | inl p ↦ h.owned n k p.0 (subst (λ (x : Node). Contains (ring_of x nodes) k) p.1 c)
-      | inr p ↦ absurd (contains-none k (subst (λ l. Contains l k) (alone-ring nodes) (subst (λ (x : Node). Contains (ring_of x nodes) k) p.1 c)))
+      | inl p ↦ h.owned n k p.0 (subst (λ (x : RingNode). Contains (ring_of x nodes) k) p.1 c)
+      | inr p ↦ absurd (contains-none k (subst (λ l. Contains l k) (alone-ring nodes) (subst (λ (x : RingNode). Contains (ring_of x nodes) k) p.1 c)))
     ];
     entries = λ k lt. let old = h.entries k lt in omega (arith, old, length-append ends (no_node ∷ []));
   }),
-  ap (λ (l : List Node). chains_of l nodes) e ∙ map-append (λ e. ring_of e nodes) ends (no_node ∷ [])
+  ap (λ (l : List RingNode). chains_of l nodes) e ∙ map-append (λ e. ring_of e nodes) ends (no_node ∷ [])
       ∙ ap (λ l. chains_of ends nodes ++ l ∷ []) (alone-ring nodes),
 )
 
-chains-same : (ends nodes nodes2 : List Node) → ((n : ℕ) → n < length ends → ring_of (ends_at ends n) nodes2 ≡ ring_of (ends_at ends n) nodes) → chains_of ends nodes2 ≡ chains_of ends nodes
+chains-same : (ends nodes nodes2 : List RingNode) → ((n : ℕ) → n < length ends → ring_of (ends_at ends n) nodes2 ≡ ring_of (ends_at ends n) nodes) → chains_of ends nodes2 ≡ chains_of ends nodes
 chains-same [] nodes nodes2 h = refl
 chains-same (e ∷ ends) nodes nodes2 h =
     ap (λ l. l ∷ chains_of ends nodes2) (h 0 (omega arith)) ∙ ap (λ l. ring_of e nodes ∷ l) (chains-same ends nodes nodes2 (λ n lt. h (suc n) (omega (arith, lt))))
 
-pub cell-pushed : (ends nodes nodes2 : List Node) (cells cells2 : List Cell) (cell : Cell) → nodes2 ≡ nodes ++ no_node ∷ [] → cells2 ≡ cells ++ cell ∷ []
+pub cell-pushed : (ends nodes nodes2 : List RingNode) (cells cells2 : List Cell) (cell : Cell) → nodes2 ≡ nodes ++ no_node ∷ [] → cells2 ≡ cells ++ cell ∷ []
     → cell.entry < length ends → AreChains ends nodes cells → AreChains ends nodes2 cells2 × (chains_of ends nodes2 ≡ chains_of ends nodes)
 cell-pushed ends nodes nodes2 cells cells2 cell e f fits h =
     let pushed = nodes ++ no_node ∷ [] in
@@ -130,7 +130,7 @@ cell-pushed ends nodes nodes2 cells cells2 cell e f fits h =
     λ n lt. ring-pushed (ends_at ends n) nodes no_node (ring_of (ends_at ends n) nodes) (h.rings n lt) in
     let same : (n : ℕ) → n < length ends → ring_of (ends_at ends n) pushed ≡ ring_of (ends_at ends n) nodes =
     λ n lt. ring-is (ends_at ends n) pushed (ring_of (ends_at ends n) nodes) (stays n lt) in (
-      subst (λ (l : List Node). AreChains ends l cells2) (sym e) (subst (λ (l : List Cell). AreChains ends pushed l) (sym f) (record {
+      subst (λ (l : List RingNode). AreChains ends l cells2) (sym e) (subst (λ (l : List Cell). AreChains ends pushed l) (sym f) (record {
         paired = length-append cells (cell ∷ []) ∙ ap (λ n. n + 1) h.paired ∙ sym (length-append nodes (no_node ∷ []));
         rings = λ n lt. subst (λ l. IsRing (ends_at ends n) pushed l) (sym (same n lt)) (stays n lt);
         owned = λ n k lt c.
@@ -146,7 +146,7 @@ cell-pushed ends nodes nodes2 cells cells2 cell e f fits h =
     )
 
 -- another cell in the place of one that is in no chain
-pub cell-set : (ends nodes : List Node) (cells : List Cell) (place : ℕ) (cell : Cell) → AreChains ends nodes cells → place < length cells → cell.entry < length ends
+pub cell-set : (ends nodes : List RingNode) (cells : List Cell) (place : ℕ) (cell : Cell) → AreChains ends nodes cells → place < length cells → cell.entry < length ends
     → has_node (chain_at (chains_of ends nodes) (cell_at cells place).entry) place ≡ false → AreChains ends nodes (set cells place cell)
 cell-set ends nodes cells place cell h within fits out = record {
   paired = length-set cells place cell ∙ h.paired;
@@ -176,16 +176,11 @@ chained-is cells cells2 chains chains2 e f =
     let first : chained cells chains ≡ chained cells2 chains = ap (λ c. chained c chains) e in
     first ∙ ap (chained cells2) f
 
-module _ (ends nodes : List Node) (cells : List Cell) (h : AreChains ends nodes cells) (entry : ℕ) (fits : entry < length ends) where
+module _ (ends nodes : List RingNode) (cells : List Cell) (h : AreChains ends nodes cells) (entry : ℕ) (fits : entry < length ends) where
   pub chain-first : (ends_at ends entry).next ≡ first_of (chain_at (chains_of ends nodes) entry)
   chain-first =
       path-first (next_at (ends_at ends entry) nodes) (prev_at (ends_at ends entry) nodes) (length nodes) None (ring_of (ends_at ends entry) nodes) None (h.rings entry fits)
       ∙ ap first_of (sym (chain-is ends nodes entry fits))
-
-  pub chain-last : (ends_at ends entry).prev ≡ last_of (chain_at (chains_of ends nodes) entry)
-  chain-last =
-      path-last (next_at (ends_at ends entry) nodes) (prev_at (ends_at ends entry) nodes) (length nodes) None (ring_of (ends_at ends entry) nodes) None (h.rings entry fits)
-      ∙ ap last_of (sym (chain-is ends nodes entry fits))
 
   pub chain-within : (o : Option ℕ) → ((xs : List ℕ) (ys : List ℕ) → ring_of (ends_at ends entry) nodes ≡ xs ++ ys → IsWithin (length nodes) o) → IfSome o (λ n. n < length cells)
   chain-within None f = tt
@@ -197,12 +192,6 @@ module _ (ends nodes : List Node) (cells : List Cell) (h : AreChains ends nodes 
       let gap = gap-within (ends_at ends entry) nodes (h.rings entry fits) [] (ring_of (ends_at ends entry) nodes) refl in
       chain-within ((ends_at ends entry).next) (λ xs ys e. subst (IsWithin (length nodes))
       (sym (path-first (next_at (ends_at ends entry) nodes) (prev_at (ends_at ends entry) nodes) (length nodes) None (ring_of (ends_at ends entry) nodes) None (h.rings entry fits))) gap.1)
-
-  pub last-within : IfSome ((ends_at ends entry).prev) (λ n. n < length cells)
-  last-within =
-      let gap = gap-within (ends_at ends entry) nodes (h.rings entry fits) (ring_of (ends_at ends entry) nodes) [] (sym (append-nil (ring_of (ends_at ends entry) nodes))) in
-      chain-within ((ends_at ends entry).prev) (λ xs ys e. subst (IsWithin (length nodes))
-      (sym (path-last (next_at (ends_at ends entry) nodes) (prev_at (ends_at ends entry) nodes) (length nodes) None (ring_of (ends_at ends entry) nodes) None (h.rings entry fits))) gap.0)
 
   module _ (cell : ℕ) (in' : has_node (chain_at (chains_of ends nodes) entry) cell ≡ true) where
     in-ring : has_node (ring_of (ends_at ends entry) nodes) cell ≡ true
@@ -231,7 +220,7 @@ without-last (x ∷ []) n = refl
 without-last (x ∷ y ∷ xs) n = ap (λ l. x ∷ l) (without-last (y ∷ xs) n)
 
 -- a cell is put at the end of its chain, or taken off it
-module _ (ends nodes : List Node) (cells : List Cell) (h : AreChains ends nodes cells) (cell entry : ℕ) (fits : cell < length cells) (e : entry ≡ (cell_at cells cell).entry) where
+module _ (ends nodes : List RingNode) (cells : List Cell) (h : AreChains ends nodes cells) (cell entry : ℕ) (fits : cell < length cells) (e : entry ≡ (cell_at cells cell).entry) where
   pub entry-fits : entry < length ends
   entry-fits = subst (λ n. n < length ends) (sym e) (h.entries cell fits)
 
@@ -244,12 +233,12 @@ module _ (ends nodes : List Node) (cells : List Cell) (h : AreChains ends nodes 
   last-is : (ends_at ends entry).prev ≡ last_of (ring_of (ends_at ends entry) nodes)
   last-is = path-last (next_at (ends_at ends entry) nodes) (prev_at (ends_at ends entry) nodes) (length nodes) None (ring_of (ends_at ends entry) nodes) None chain-ring
 
-  module _ (prev : Option ℕ) (prev-is : prev ≡ (ends_at ends entry).prev) (mid : List Node) (mid-is : mid ≡ set nodes cell (record { prev = prev; next = None })) (end : Node) (end-is : end ≡ ends_at ends entry) where
+  module _ (prev : Option ℕ) (prev-is : prev ≡ (ends_at ends entry).prev) (mid : List RingNode) (mid-is : mid ≡ set nodes cell (record { prev = prev; next = None })) (end : RingNode) (end-is : end ≡ ends_at ends entry) where
     mid-at : get_or mid cell no_node ≡ record { prev = prev; next = None }
-    mid-at = ap (λ (l : List Node). get_or l cell no_node) mid-is ∙ get_or-set_same nodes cell (record { prev = prev; next = None }) no_node (omega (arith, fits, h.paired))
+    mid-at = ap (λ (l : List RingNode). get_or l cell no_node) mid-is ∙ get_or-set_same nodes cell (record { prev = prev; next = None }) no_node (omega (arith, fits, h.paired))
 
     mid-other : (k : ℕ) → (k ≡ cell → ⊥) → get_or mid k no_node ≡ get_or nodes k no_node
-    mid-other k ne = ap (λ (l : List Node). get_or l k no_node) mid-is ∙ get_or-set_other nodes cell k (record { prev = prev; next = None }) no_node ne
+    mid-other k ne = ap (λ (l : List RingNode). get_or l k no_node) mid-is ∙ get_or-set_other nodes cell k (record { prev = prev; next = None }) no_node ne
 
     mid-length : length mid ≡ length nodes
     mid-length = ap length mid-is ∙ length-set nodes cell (record { prev = prev; next = None })
@@ -258,9 +247,9 @@ module _ (ends nodes : List Node) (cells : List Cell) (h : AreChains ends nodes 
     appended-prev =
         let gap = gap-within (ends_at ends entry) nodes chain-ring (ring_of (ends_at ends entry) nodes) [] (sym (append-nil (ring_of (ends_at ends entry) nodes))) in
         subst (λ (c : ℕ). IsWithin c (prev_at end mid (Some cell))) (sym mid-length)
-        (subst (IsWithin (length nodes)) (sym (ap (λ (x : Node). x.prev) mid-at ∙ prev-is ∙ last-is)) gap.0)
+        (subst (IsWithin (length nodes)) (sym (ap (λ (x : RingNode). x.prev) mid-at ∙ prev-is ∙ last-is)) gap.0)
 
-    pub appended-chains : (end2 : Node) (new old : List Node) (len : ℕ) → has_node (chain_at (chains_of ends nodes) entry) cell ≡ false
+    pub appended-chains : (end2 : RingNode) (new old : List RingNode) (len : ℕ) → has_node (chain_at (chains_of ends nodes) entry) cell ≡ false
         → ((at : Option ℕ) → next_at end2 new at ≡ with_place (prev_at end mid (Some cell)) (Some cell) (next_at end mid) at)
         → ((at : Option ℕ) → prev_at end2 new at ≡ with_place (next_at end mid (Some cell)) (Some cell) (prev_at end mid) at)
         → length new ≡ length mid → len ≡ length nodes
@@ -272,11 +261,11 @@ module _ (ends nodes : List Node) (cells : List Cell) (h : AreChains ends nodes 
         let is : chain_at (chains_of ends nodes) entry ≡ ns = chain-is ends nodes entry entry-fits in
         let out : has_node ns cell ≡ false = ap (λ (l : List ℕ). has_node l cell) (sym is) ∙ outside in
         let on' : (at : Option ℕ) → next_at end2 new at ≡ with_place (prev_at end' mid (Some cell)) (Some cell) (next_at end' mid) at =
-        λ at. on at ∙ ap (λ (x : Node). with_place (prev_at x mid (Some cell)) (Some cell) (next_at x mid) at) end-is in
+        λ at. on at ∙ ap (λ (x : RingNode). with_place (prev_at x mid (Some cell)) (Some cell) (next_at x mid) at) end-is in
         let back' : (at : Option ℕ) → prev_at end2 new at ≡ with_place (next_at end' mid (Some cell)) (Some cell) (prev_at end' mid) at =
-        λ at. back at ∙ ap (λ (x : Node). with_place (next_at x mid (Some cell)) (Some cell) (prev_at x mid) at) end-is in
-        let p : prev_at end' mid (Some cell) ≡ last_of ns = ap (λ (x : Node). x.prev) mid-at ∙ prev-is ∙ last-is in
-        let q : next_at end' mid (Some cell) ≡ None = ap (λ (x : Node). x.next) mid-at in
+        λ at. back at ∙ ap (λ (x : RingNode). with_place (next_at x mid (Some cell)) (Some cell) (prev_at x mid) at) end-is in
+        let p : prev_at end' mid (Some cell) ≡ last_of ns = ap (λ (x : RingNode). x.prev) mid-at ∙ prev-is ∙ last-is in
+        let q : next_at end' mid (Some cell) ≡ None = ap (λ (x : RingNode). x.next) mid-at in
         let row = row-linked end' end2 nodes mid new cell ns [] mid-length (same ∙ mid-length) mid-other chain-ring (sym (append-nil ns)) out
         (omega (arith, fits, h.paired)) p q on' back' in
         let changed = chain-changed ends nodes new cells entry end2 (ns ++ cell ∷ []) h entry-fits (same ∙ mid-length) row.0 row.1
@@ -286,14 +275,14 @@ module _ (ends nodes : List Node) (cells : List Cell) (h : AreChains ends nodes 
         ])
         (λ k ne.
         let other : k ≡ cell → ⊥ = λ i. ne (ap (λ n. (cell_at cells n).entry) i ∙ sym e) in (
-          back' (Some k) ∙ same-elsewhere (next_at end' mid (Some cell)) (Some cell) (prev_at end' mid) k (λ i. let no : None ≡ Some k = sym q ∙ i in cc no) ∙ ap (λ (x : Node). x.prev) (mid-other k other),
-          on' (Some k) ∙ same-elsewhere (prev_at end' mid (Some cell)) (Some cell) (next_at end' mid) k (λ i. not-last ns k (λ c. ne (chain-owned k c)) (sym p ∙ i)) ∙ ap (λ (x : Node). x.next) (mid-other k other),
+          back' (Some k) ∙ same-elsewhere (next_at end' mid (Some cell)) (Some cell) (prev_at end' mid) k (λ i. let no : None ≡ Some k = sym q ∙ i in cc no) ∙ ap (λ (x : RingNode). x.prev) (mid-other k other),
+          on' (Some k) ∙ same-elsewhere (prev_at end' mid (Some cell)) (Some cell) (next_at end' mid) k (λ i. not-last ns k (λ c. ne (chain-owned k c)) (sym p ∙ i)) ∙ ap (λ (x : RingNode). x.next) (mid-other k other),
         )) in
-        subst (λ (l : List Node). AreChains (set ends entry end2) l cells × (chains_of (set ends entry end2) l ≡ set (chains_of ends nodes) entry (chain_at (chains_of ends nodes) entry ++ cell ∷ [])))
+        subst (λ (l : List RingNode). AreChains (set ends entry end2) l cells × (chains_of (set ends entry end2) l ≡ set (chains_of ends nodes) entry (chain_at (chains_of ends nodes) entry ++ cell ∷ [])))
         (sym (written len new old (same ∙ mid-length ∙ sym all)))
         (changed.0, changed.1 ∙ ap (λ (l : List ℕ). set (chains_of ends nodes) entry (l ++ cell ∷ [])) (sym is))
 
-  module _ (last : last_of (chain_at (chains_of ends nodes) entry) ≡ Some cell) (mid : List Node) (mid-is : mid ≡ nodes) (end : Node) (end-is : end ≡ ends_at ends entry) where
+  module _ (last : last_of (chain_at (chains_of ends nodes) entry) ≡ Some cell) (mid : List RingNode) (mid-is : mid ≡ nodes) (end : RingNode) (end-is : end ≡ ends_at ends entry) where
     ring-parted : ring_of (ends_at ends entry) nodes ≡ without_last (ring_of (ends_at ends entry) nodes) ++ cell ∷ []
     ring-parted = last-parted (ring_of (ends_at ends entry) nodes) cell (ap last_of (sym (chain-is ends nodes entry entry-fits)) ∙ last)
 
@@ -302,12 +291,12 @@ module _ (ends nodes : List Node) (cells : List Cell) (h : AreChains ends nodes 
         (subst (λ l. Contains l cell) (sym ring-parted) (contains-right (without_last (ring_of (ends_at ends entry) nodes)) (cell ∷ []) cell (contains-head cell [])))
 
     pub shortened-prev : IsWithin (length mid) (prev_at end mid (Some cell))
-    shortened-prev = subst (λ (l : List Node). IsWithin (length l) (prev_at end l (Some cell))) (sym mid-is) ((sides-within (ends_at ends entry) nodes chain-ring cell in-chain).0)
+    shortened-prev = subst (λ (l : List RingNode). IsWithin (length l) (prev_at end l (Some cell))) (sym mid-is) ((sides-within (ends_at ends entry) nodes chain-ring cell in-chain).0)
 
     pub shortened-next : IsWithin (length mid) (next_at end mid (Some cell))
-    shortened-next = subst (λ (l : List Node). IsWithin (length l) (next_at end l (Some cell))) (sym mid-is) ((sides-within (ends_at ends entry) nodes chain-ring cell in-chain).1)
+    shortened-next = subst (λ (l : List RingNode). IsWithin (length l) (next_at end l (Some cell))) (sym mid-is) ((sides-within (ends_at ends entry) nodes chain-ring cell in-chain).1)
 
-    pub shortened-chains : (end2 : Node) (new old : List Node) (len : ℕ)
+    pub shortened-chains : (end2 : RingNode) (new old : List RingNode) (len : ℕ)
         → ((at : Option ℕ) → next_at end2 new at ≡ with_place (prev_at end mid (Some cell)) (next_at end mid (Some cell)) (next_at end mid) at)
         → ((at : Option ℕ) → prev_at end2 new at ≡ with_place (next_at end mid (Some cell)) (prev_at end mid (Some cell)) (prev_at end mid) at)
         → length new ≡ length mid → len ≡ length nodes
@@ -319,11 +308,11 @@ module _ (ends nodes : List Node) (cells : List Cell) (h : AreChains ends nodes 
         let end' = ends_at ends entry in
         let lens : length new ≡ length nodes = same ∙ ap length mid-is in
         let on' : (at : Option ℕ) → next_at end2 new at ≡ with_place (prev_at end' nodes (Some cell)) (next_at end' nodes (Some cell)) (next_at end' nodes) at =
-        λ at. on at ∙ ap (λ (x : Node). with_place (prev_at x mid (Some cell)) (next_at x mid (Some cell)) (next_at x mid) at) end-is
-        ∙ ap (λ (l : List Node). with_place (prev_at end' l (Some cell)) (next_at end' l (Some cell)) (next_at end' l) at) mid-is in
+        λ at. on at ∙ ap (λ (x : RingNode). with_place (prev_at x mid (Some cell)) (next_at x mid (Some cell)) (next_at x mid) at) end-is
+        ∙ ap (λ (l : List RingNode). with_place (prev_at end' l (Some cell)) (next_at end' l (Some cell)) (next_at end' l) at) mid-is in
         let back' : (at : Option ℕ) → prev_at end2 new at ≡ with_place (next_at end' nodes (Some cell)) (prev_at end' nodes (Some cell)) (prev_at end' nodes) at =
-        λ at. back at ∙ ap (λ (x : Node). with_place (next_at x mid (Some cell)) (prev_at x mid (Some cell)) (prev_at x mid) at) end-is
-        ∙ ap (λ (l : List Node). with_place (next_at end' l (Some cell)) (prev_at end' l (Some cell)) (prev_at end' l) at) mid-is in
+        λ at. back at ∙ ap (λ (x : RingNode). with_place (next_at x mid (Some cell)) (prev_at x mid (Some cell)) (prev_at x mid) at) end-is
+        ∙ ap (λ (l : List RingNode). with_place (next_at end' l (Some cell)) (prev_at end' l (Some cell)) (prev_at end' l) at) mid-is in
         let part = node-parted end' nodes chain-ring cell in-chain in
         let whole : IsRing end' nodes (front ++ cell ∷ []) = subst (λ l. IsRing end' nodes l) ring-parted chain-ring in
         let once = ring-once end' nodes (front ++ cell ∷ []) whole in
@@ -340,12 +329,12 @@ module _ (ends nodes : List Node) (cells : List Cell) (h : AreChains ends nodes 
           on' (Some k) ∙ same-elsewhere (prev_at end' nodes (Some cell)) (next_at end' nodes (Some cell)) (next_at end' nodes) k
               (λ i. not-last part.0 k (λ c. ne (in-ns part.0 (cell ∷ part.1) k part.2 (contains-left part.0 (cell ∷ part.1) k c))) (sym part.3 ∙ i)),
         )) in
-        subst (λ (l : List Node). AreChains (set ends entry end2) l cells × (chains_of (set ends entry end2) l ≡ set (chains_of ends nodes) entry (without_last (chain_at (chains_of ends nodes) entry))))
+        subst (λ (l : List RingNode). AreChains (set ends entry end2) l cells × (chains_of (set ends entry end2) l ≡ set (chains_of ends nodes) entry (without_last (chain_at (chains_of ends nodes) entry))))
         (sym (written len new old (lens ∙ sym all)))
         (changed.0, changed.1 ∙ ap (λ (l : List ℕ). set (chains_of ends nodes) entry (without_last l)) (sym (chain-is ends nodes entry entry-fits)))
 
 -- a cell of a chain is in the chain of its entry
-pub in-own-chain : (ends nodes : List Node) (cells : List Cell) → AreChains ends nodes cells → (entry : ℕ) → entry < length ends → (now : Chained)
+pub in-own-chain : (ends nodes : List RingNode) (cells : List Cell) → AreChains ends nodes cells → (entry : ℕ) → entry < length ends → (now : Chained)
     → chained cells (chains_of ends nodes) ≡ now → (o : Option ℕ) → IfSome o (λ n. Contains (ring_of (ends_at ends entry) nodes) n)
     → IfSome o (λ n. IsTrue (has_node (chain_with now n) n))
 in-own-chain ends nodes cells h entry fits now is None c = tt
@@ -357,11 +346,6 @@ pub first-in : (o : Option ℕ) (ns : List ℕ) → o ≡ first_of ns → IfSome
 first-in None ns e = tt
 first-in (Some n) [] e = absurd (cc e)
 first-in (Some n) (m ∷ ns) e = let same : n ≡ m = cc in subst (λ k. Contains (m ∷ ns) k) (sym same) (contains-head m ns)
-
-pub last-in : (o : Option ℕ) (ns : List ℕ) → o ≡ last_of ns → IfSome o (λ n. Contains ns n)
-last-in None ns e = tt
-last-in (Some n) [] e = absurd (cc e)
-last-in (Some n) (m ∷ ns) e = let last = last-contains m ns in let i : Some n ≡ Some last.0 = e ∙ last.1 in let same : n ≡ last.0 = cc in subst (λ k. Contains (m ∷ ns) k) (sym same) last.2
 
 pub behind-in : (ns : List ℕ) (m n : ℕ) → Contains (behind_first (eqb m) ns) n → Contains ns n
 behind-in [] m n c = c
@@ -375,7 +359,7 @@ pub some-more : (o : Option ℕ) (P Q : ℕ → Type 0) → ((n : ℕ) → P n �
 some-more None P Q f h = tt
 some-more (Some n) P Q f h = f n h
 
-pub cell-owner : (ends nodes : List Node) (cells : List Cell) → AreChains ends nodes cells → (entry : ℕ) → entry < length ends → (now : Chained)
+pub cell-owner : (ends nodes : List RingNode) (cells : List Cell) → AreChains ends nodes cells → (entry : ℕ) → entry < length ends → (now : Chained)
     → chained cells (chains_of ends nodes) ≡ now → (o : Option ℕ) → IfSome o (λ n. Contains (ring_of (ends_at ends entry) nodes) n)
     → IfSome o (λ n. (cell_at now.cells n).entry ≡ entry)
 cell-owner ends nodes cells h entry fits now is None c = tt
@@ -387,7 +371,7 @@ pub record Tells (now : Chained) (entry : ℕ) (o : Option ℕ) : Type 0 where
   pub linked : IfSome o (λ n. IsTrue (has_node (chain_with now n) n))
   pub owner : IfSome o (λ n. (cell_at now.cells n).entry ≡ entry)
 
-module _ (ends nodes : List Node) (cells : List Cell) (h : AreChains ends nodes cells) (now : Chained) (is : chained cells (chains_of ends nodes) ≡ now) where
+module _ (ends nodes : List RingNode) (cells : List Cell) (h : AreChains ends nodes cells) (now : Chained) (is : chained cells (chains_of ends nodes) ≡ now) where
   tells : (entry : ℕ) → entry < length ends → (o : Option ℕ) → IfSome o (λ n. n < length cells) → IfSome o (λ n. Contains (ring_of (ends_at ends entry) nodes) n) → Tells now entry o
   tells entry fits o within inside = record {
     within = subst (λ (v : Chained). IfSome o (λ n. n < length v.cells)) is within;
@@ -396,7 +380,7 @@ module _ (ends nodes : List Node) (cells : List Cell) (h : AreChains ends nodes 
   }
 
   -- the ends of a chain
-  module _ (entry : ℕ) (has : entry < length now.chains) (end : Node) (end-is : end ≡ get_or ends entry end) where
+  module _ (entry : ℕ) (has : entry < length now.chains) (end : RingNode) (end-is : end ≡ get_or ends entry end) where
     end-fits : entry < length ends
     end-fits = chain-fits ends nodes now.chains entry (ap (λ (v : Chained). v.chains) is) has
 
@@ -405,25 +389,16 @@ module _ (ends nodes : List Node) (cells : List Cell) (h : AreChains ends nodes 
 
     pub first-tells : Tells now entry end.next
     first-tells =
-        let told = ap (λ (n : Node). n.next) end-at in
+        let told = ap (λ (n : RingNode). n.next) end-at in
         tells entry end-fits end.next (subst (λ (o : Option ℕ). IfSome o (λ n. n < length cells)) (sym told) (first-within ends nodes cells h entry end-fits))
         (first-in end.next (ring_of (ends_at ends entry) nodes) (told ∙ chain-first ends nodes cells h entry end-fits ∙ ap first_of (chain-is ends nodes entry end-fits)))
-
-    pub last-told : end.prev ≡ last_of (chain_at now.chains entry)
-    last-told = ap (λ (n : Node). n.prev) end-at ∙ chain-last ends nodes cells h entry end-fits ∙ ap (λ (v : Chained). last_of (chain_at v.chains entry)) is
-
-    pub last-tells : Tells now entry end.prev
-    last-tells =
-        let told = ap (λ (n : Node). n.prev) end-at in
-        tells entry end-fits end.prev (subst (λ (o : Option ℕ). IfSome o (λ n. n < length cells)) (sym told) (last-within ends nodes cells h entry end-fits))
-        (last-in end.prev (ring_of (ends_at ends entry) nodes) (told ∙ chain-last ends nodes cells h entry end-fits ∙ ap last_of (chain-is ends nodes entry end-fits)))
 
   module _ (cell : ℕ) (has : cell < length now.cells) where
     cell-fits : cell < length cells
     cell-fits = omega (arith, has, ap (λ (v : Chained). length v.cells) is)
 
     -- the cell behind one that is linked
-    module _ (linked : has_node (chain_with now cell) cell ≡ true) (node : Node) (node-is : node ≡ get_or nodes cell node) where
+    module _ (linked : has_node (chain_with now cell) cell ≡ true) (node : RingNode) (node-is : node ≡ get_or nodes cell node) where
       abbrev own : ℕ
       own = (cell_at cells cell).entry
 
@@ -438,12 +413,12 @@ module _ (ends nodes : List Node) (cells : List Cell) (h : AreChains ends nodes 
 
       pub next-told : node.next ≡ first_of (behind (Some cell) (chain_with now cell))
       next-told =
-          ap (λ (n : Node). n.next) node-at ∙ cell-next ends nodes cells h own own-fits cell in-own
+          ap (λ (n : RingNode). n.next) node-at ∙ cell-next ends nodes cells h own own-fits cell in-own
           ∙ ap (λ (v : Chained). first_of (behind (Some cell) (chain_with v cell))) is
 
       pub next-tells : Tells now (cell_at now.cells cell).entry node.next
       next-tells =
-          let told = ap (λ (n : Node). n.next) node-at in
+          let told = ap (λ (n : RingNode). n.next) node-at in
           let ring = ring_of (ends_at ends own) nodes in
           subst (λ (v : Chained). Tells now (cell_at v.cells cell).entry node.next) is
           (tells own own-fits node.next (subst (λ (o : Option ℕ). IfSome o (λ n. n < length cells)) (sym told) (next-within ends nodes cells h own own-fits cell in-own))
@@ -452,8 +427,8 @@ module _ (ends nodes : List Node) (cells : List Cell) (h : AreChains ends nodes 
           (told ∙ cell-next ends nodes cells h own own-fits cell in-own ∙ ap (λ (l : List ℕ). first_of (behind (Some cell) l)) (chain-is ends nodes own own-fits)))))
 
     -- the last cell is taken off its chain
-    module _ (last : last_of (chain_with now cell) ≡ Some cell) (row : Cell) (row-is : row ≡ get_or cells cell row) (mid : List Node) (mid-is : mid ≡ nodes)
-        (end : Node) (end-is : end ≡ get_or ends row.entry end) where
+    module _ (last : last_of (chain_with now cell) ≡ Some cell) (row : Cell) (row-is : row ≡ get_or cells cell row) (mid : List RingNode) (mid-is : mid ≡ nodes)
+        (end : RingNode) (end-is : end ≡ get_or ends row.entry end) where
       row-entry : row.entry ≡ (cell_at cells cell).entry
       row-entry = ap (λ (x : Cell). x.entry) (row-is ∙ get_or_default cells cell row no_cell cell-fits)
 
@@ -469,7 +444,7 @@ module _ (ends nodes : List Node) (cells : List Cell) (h : AreChains ends nodes 
       pub off-next : IsWithin (length mid) (next_at end mid (Some cell))
       off-next = shortened-next ends nodes cells h cell row.entry cell-fits row-entry row-last mid mid-is end row-end
 
-      pub off-chains : (end2 : Node) (new old : List Node) (len : ℕ)
+      pub off-chains : (end2 : RingNode) (new old : List RingNode) (len : ℕ)
           → ((at : Option ℕ) → next_at end2 new at ≡ with_place (prev_at end mid (Some cell)) (next_at end mid (Some cell)) (next_at end mid) at)
           → ((at : Option ℕ) → prev_at end2 new at ≡ with_place (next_at end mid (Some cell)) (prev_at end mid (Some cell)) (prev_at end mid) at)
           → length new ≡ length mid → len ≡ length nodes
@@ -486,7 +461,7 @@ module _ (ends nodes : List Node) (cells : List Cell) (h : AreChains ends nodes 
           )
 
 -- a cell that comes next is in no chain
-pub outside-all : (ends nodes : List Node) (cells : List Cell) → AreChains ends nodes cells → (entry : ℕ) → entry < length ends
+pub outside-all : (ends nodes : List RingNode) (cells : List Cell) → AreChains ends nodes cells → (entry : ℕ) → entry < length ends
     → has_node (chain_at (chains_of ends nodes) entry) (length cells) ≡ false
 outside-all ends nodes cells h entry fits =
     ap (λ (l : List ℕ). has_node l (length cells)) (chain-is ends nodes entry fits)

@@ -1,4 +1,4 @@
--- Lists by their last items.
+-- Shared: lists by their last items.
 use Rattle.std.proofs.Common.{◌≡◌, ℕ, zero, suc, ◌+◌, ◌<◌, take, drop, List, [], ◌∷◌, ◌++◌, length, Option, Some, None, MatchOption, refl, sym, ap, ◌∙◌, subst, inl, inr, ◌⊎◌, arith}
 
 -- a list with one item more, split

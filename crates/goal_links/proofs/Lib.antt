@@ -3,8 +3,8 @@ pub mod Rings
 pub mod Nodes
 pub mod Rows
 pub mod Chained
-pub mod Keys
-pub mod Mapped
-pub mod Entries
+pub mod VariableKeys
+pub mod NamedItems
+pub mod EntryLemmas
 pub mod LastItems
-pub mod Walks
+pub mod ChainWalks

@@ -2,7 +2,7 @@
 use Rattle.std.proofs.Common.{◌≡◌, ℕ, eqb-true, eq-eqb, append-nil, ◌<◌, ◌≤◌, arith, length, true, false, cond, List, [], ◌∷◌, ◌++◌, Option, Some, None, refl, sym, ap, ◌∙◌, subst, inl, inr, length-append}
 use Rattle.std.specs.List.{Contains}
 use Rattle.common_laws.specs.Lists.{contains-head, contains-tail, contains-none, contains-cases, contains-left, contains-right}
-use Rattle.choice_problem.proofs.Paths.{parted}
+use Rattle.choice_problem.proofs.EdgePaths.{parted}
 use Rattle.goal_links.specs.Beside.{last_from, first_or}
 use Rattle.goal_links.specs.Ring.{IsPath, same_place, with_place}
 

@@ -6,7 +6,7 @@ use Rattle.std.proofs.lemmas.Bool.Decides.{Decides-eqb}
 use Rattle.std.proofs.lemmas.Map.Steps.{length-le_from_distinct_below}
 use Rattle.std.proofs.lemmas.Map.Made.{IsDistinct-from_AllPairs}
 use Rattle.common_laws.specs.Lists.{contains-head, contains-tail, pairs-nil, pairs-cons}
-use Rattle.goal_links.specs.declared.ring.Node.{Node}
+use Rattle.goal_links.specs.declared.ring.RingNode.{RingNode}
 use Rattle.goal_links.specs.Ring.{IsPath, IsRing, nodes_from, ring_of, next_at, prev_at}
 use Rattle.goal_links.specs.Row.{has_node}
 use Rattle.goal_links.proofs.Paths.{AreOnce, path-once, path-within, once-start}
@@ -26,7 +26,7 @@ once-pairs start (n ∷ ns) h = pairs-cons (λ a b. a ≡ b → ⊥) n ns (λ k 
 pub once-short : (start : Option ℕ) (ns : List ℕ) (count : ℕ) → AreOnce start ns → ((k : ℕ) → Contains ns k → k < count) → length ns ≤ count
 once-short start ns count h within = length-le_from_distinct_below ns count (IsDistinct-from_AllPairs Decides-eqb ns (once-pairs start ns h)) (λ k c. within k (has-contains ns k c))
 
-walk-is : (ends : Node) (nodes : List Node) (fuel : ℕ) (start : Option ℕ) (ns : List ℕ)
+walk-is : (ends : RingNode) (nodes : List RingNode) (fuel : ℕ) (start : Option ℕ) (ns : List ℕ)
     → IsPath (next_at ends nodes) (prev_at ends nodes) (length nodes) start ns None → length ns ≤ fuel → nodes_from nodes fuel (next_at ends nodes start) ≡ ns
 walk-is ends nodes zero start [] h k = refl
 walk-is ends nodes zero start (n ∷ ns) h k = absurd (omega (arith, k))
@@ -34,7 +34,7 @@ walk-is ends nodes (suc fuel) start [] h k = ap (nodes_from nodes (suc fuel)) h.
 walk-is ends nodes (suc fuel) start (n ∷ ns) h k =
     ap (nodes_from nodes (suc fuel)) h.0 ∙ ap (λ l. n ∷ l) (walk-is ends nodes fuel (Some n) ns h.3 (omega (arith, k)))
 
-module _ (ends : Node) (nodes : List Node) where
+module _ (ends : RingNode) (nodes : List RingNode) where
   pub ring-once : (ns : List ℕ) → IsRing ends nodes ns → AreOnce None ns
   ring-once ns h = path-once (next_at ends nodes) (prev_at ends nodes) (length nodes) None ns h
 

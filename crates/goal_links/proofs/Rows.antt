@@ -7,8 +7,8 @@ use Rattle.std.proofs.lemmas.List.{length-set, get_or-set_same, get_or-set_other
 use Rattle.std.proofs.lemmas.Bool.{false≢true}
 use Rattle.std.proofs.lemmas.Option.{slice_get-get_or, slice_get_within, get_or_from_slice_get}
 use Rattle.common_laws.specs.Lists.{contains-head, contains-tail, contains-left, contains-right}
-use Rattle.choice_problem.proofs.Paths.{parted}
-use Rattle.goal_links.specs.declared.ring.Node.{Node}
+use Rattle.choice_problem.proofs.EdgePaths.{parted}
+use Rattle.goal_links.specs.declared.ring.RingNode.{RingNode}
 use Rattle.goal_links.specs.Beside.{last_of, first_of, beside, behind_first}
 use Rattle.goal_links.specs.Ring.{IsPath, IsRing, no_node, ring_of, next_at, prev_at, with_place, IsWithin}
 use Rattle.goal_links.specs.Row.{Line, with_node, has_node, without_node, behind, StandsIn, MayReturn, IsGap, kept_from}
@@ -23,35 +23,35 @@ abbrev pub line : List ℕ → List (Option Sides) → Line
 line linked kept = record { linked = linked; kept = kept }
 
 -- the nodes are those of a row with these linked and these neighbours kept
-abbrev pub IsRow : Node → List Node → List ℕ → List (Option Sides) → Type 0
+abbrev pub IsRow : RingNode → List RingNode → List ℕ → List (Option Sides) → Type 0
 IsRow ends nodes linked kept = IsRing ends nodes (ring_of ends nodes) × (ring_of ends nodes ≡ linked) × (kept_from (ring_of ends nodes) 0 nodes ≡ kept)
 
 -- it is the one that contracts see
-pub row-line : (ends : Node) (nodes : List Node) (linked : List ℕ) (kept : List (Option Sides)) → IsRow ends nodes linked kept
+pub row-line : (ends : RingNode) (nodes : List RingNode) (linked : List ℕ) (kept : List (Option Sides)) → IsRow ends nodes linked kept
     → line (ring_of ends nodes) (kept_from (ring_of ends nodes) 0 nodes) ≡ line linked kept
 row-line ends nodes linked kept h =
     let first : line (ring_of ends nodes) (kept_from (ring_of ends nodes) 0 nodes) ≡ line linked (kept_from (ring_of ends nodes) 0 nodes) = ap (λ l. line l (kept_from (ring_of ends nodes) 0 nodes)) h.1 in
     first ∙ ap (line linked) h.2
 
 -- what a slice of all nodes leaves behind
-pub written : (n : ℕ) (new old : List Node) → length new ≡ n → take n (new ++ drop (length new) old) ≡ new
+pub written : (n : ℕ) (new old : List RingNode) → length new ≡ n → take n (new ++ drop (length new) old) ≡ new
 written n new old e = ap (λ k. take k (new ++ drop (length new) old)) (sym e) ∙ take-append_seam new (drop (length new) old)
 
 -- what is kept
 
 -- the neighbours of a node
-abbrev pub sides_of : Node → Option Sides
+abbrev pub sides_of : RingNode → Option Sides
 sides_of node = Some (node.prev, node.next)
 
 -- the neighbours of the node at a place
-abbrev pub neighbours : List Node → ℕ → Option Sides
+abbrev pub neighbours : List RingNode → ℕ → Option Sides
 neighbours nodes k = sides_of (get_or nodes k no_node)
 
-pub kept-length : (linked : List ℕ) (n : ℕ) (nodes : List Node) → length (kept_from linked n nodes) ≡ length nodes
+pub kept-length : (linked : List ℕ) (n : ℕ) (nodes : List RingNode) → length (kept_from linked n nodes) ≡ length nodes
 kept-length linked n [] = refl
 kept-length linked n (node ∷ nodes) = ap suc (kept-length linked (suc n) nodes)
 
-kept-get : (linked : List ℕ) (n : ℕ) (nodes : List Node) (k : ℕ) → k < length nodes
+kept-get : (linked : List ℕ) (n : ℕ) (nodes : List RingNode) (k : ℕ) → k < length nodes
     → get_or (kept_from linked n nodes) k None ≡ cond (has_node linked (n + k)) None (neighbours nodes k)
 kept-get linked n [] k h = absurd (omega (arith, h))
 kept-get linked n (node ∷ nodes) zero h = ap (λ m. cond (has_node linked m) None (Some (node.prev, node.next))) (omega arith)
@@ -59,22 +59,22 @@ kept-get linked n (node ∷ nodes) (suc k) h =
     kept-get linked (suc n) nodes k (omega (arith, h))
     ∙ ap (λ m. cond (has_node linked m) None (neighbours nodes k)) (omega arith)
 
-pub kept-at : (linked : List ℕ) (nodes : List Node) (k : ℕ) → k < length nodes
+pub kept-at : (linked : List ℕ) (nodes : List RingNode) (k : ℕ) → k < length nodes
     → get_or (kept_from linked 0 nodes) k None ≡ cond (has_node linked k) None (neighbours nodes k)
 kept-at linked nodes k h =
     kept-get linked 0 nodes k h
     ∙ ap (λ m. cond (has_node linked m) None (neighbours nodes k)) (omega arith)
 
-abbrev pub AreSame : Node → Node → Type 0
+abbrev pub AreSame : RingNode → RingNode → Type 0
 AreSame m n = (m.prev ≡ n.prev) × (m.next ≡ n.next)
 
-same-sides : (m n : Node) → AreSame m n → sides_of m ≡ sides_of n
+same-sides : (m n : RingNode) → AreSame m n → sides_of m ≡ sides_of n
 same-sides m n h =
     let left : sides_of m ≡ Some (n.prev, m.next) = ap (λ (p : Option ℕ). let s : Option Sides = Some (p, m.next) in s) h.0 in
     left ∙ ap (λ (q : Option ℕ). let s : Option Sides = Some (n.prev, q) in s) h.1
 
 -- what is kept changes at one node
-pub kept-changed : (linked linked2 : List ℕ) (nodes nodes2 : List Node) (x : ℕ) (v : Option Sides) → length nodes2 ≡ length nodes → x < length nodes
+pub kept-changed : (linked linked2 : List ℕ) (nodes nodes2 : List RingNode) (x : ℕ) (v : Option Sides) → length nodes2 ≡ length nodes → x < length nodes
     → ((k : ℕ) → (k ≡ x → ⊥) → has_node linked2 k ≡ has_node linked k)
     → ((k : ℕ) → (k ≡ x → ⊥) → has_node linked k ≡ false → AreSame (get_or nodes2 k no_node) (get_or nodes k no_node))
     → cond (has_node linked2 x) None (neighbours nodes2 x) ≡ v
@@ -106,7 +106,7 @@ kept-changed linked linked2 nodes nodes2 x v len within has same at =
 
 -- what stands beside a node of a ring
 
-module _ (ends : Node) (nodes : List Node) (ns : List ℕ) (h : IsRing ends nodes ns) where
+module _ (ends : RingNode) (nodes : List RingNode) (ns : List ℕ) (h : IsRing ends nodes ns) where
   pub linked-within : (n : ℕ) → has_node ns n ≡ true → n < length nodes
   linked-within n k = ring-within ends nodes ns h n (has-contains ns n k)
 
@@ -123,7 +123,7 @@ module _ (ends : Node) (nodes : List Node) (ns : List ℕ) (h : IsRing ends node
 pub same-elsewhere : (p : Option ℕ) (to : Option ℕ) (old : Option ℕ → Option ℕ) (k : ℕ) → (p ≡ Some k → ⊥) → with_place p to old (Some k) ≡ old (Some k)
 same-elsewhere p to old k h = ap (λ b. cond b to (old (Some k))) (place-other p (Some k) h)
 
-module _ (ends ends2 : Node) (nodes nodes2 : List Node) (len : length nodes2 ≡ length nodes) (n : ℕ) where
+module _ (ends ends2 : RingNode) (nodes nodes2 : List RingNode) (len : length nodes2 ≡ length nodes) (n : ℕ) where
   -- the ring, its nodes and what is kept, once a node was taken out
   pub row-unlinked : IsRing ends nodes (ring_of ends nodes) → has_node (ring_of ends nodes) n ≡ true
       → ((at : Option ℕ) → next_at ends2 nodes2 at ≡ with_place (prev_at ends nodes (Some n)) (next_at ends nodes (Some n)) (next_at ends nodes) at)
@@ -168,22 +168,22 @@ module _ (ends ends2 : Node) (nodes nodes2 : List Node) (len : length nodes2 ≡
       )
 
 -- the ring, its nodes and what is kept, with one node more outside
-kept-push : (linked : List ℕ) (n : ℕ) (nodes : List Node) (m : Node)
+kept-push : (linked : List ℕ) (n : ℕ) (nodes : List RingNode) (m : RingNode)
     → kept_from linked n (nodes ++ m ∷ []) ≡ kept_from linked n nodes ++ cond (has_node linked (n + length nodes)) None (sides_of m) ∷ []
 kept-push linked n [] m = ap (λ k. cond (has_node linked k) None (sides_of m) ∷ []) (omega arith)
 kept-push linked n (node ∷ nodes) m =
     ap (λ l. cond (has_node linked n) None (sides_of node) ∷ l)
     (kept-push linked (suc n) nodes m ∙ ap (λ k. kept_from linked (suc n) nodes ++ cond (has_node linked k) None (sides_of m) ∷ []) (omega arith))
 
-pub ring-pushed : (ends : Node) (nodes : List Node) (m : Node) (ns : List ℕ) → IsRing ends nodes ns → IsRing ends (nodes ++ m ∷ []) ns
+pub ring-pushed : (ends : RingNode) (nodes : List RingNode) (m : RingNode) (ns : List ℕ) → IsRing ends nodes ns → IsRing ends (nodes ++ m ∷ []) ns
 ring-pushed ends nodes m ns h =
     let within = ring-within ends nodes ns h in
     path-stays (next_at ends nodes) (prev_at ends nodes) (next_at ends (nodes ++ m ∷ [])) (prev_at ends (nodes ++ m ∷ [])) (length (nodes ++ m ∷ [])) None ns None refl
-    (λ k c. ap (λ (n : Node). n.next) (get_or_append_left nodes (m ∷ []) no_node k (within k c)))
-    (λ k c. ap (λ (n : Node). n.prev) (get_or_append_left nodes (m ∷ []) no_node k (within k c))) refl
+    (λ k c. ap (λ (n : RingNode). n.next) (get_or_append_left nodes (m ∷ []) no_node k (within k c)))
+    (λ k c. ap (λ (n : RingNode). n.prev) (get_or_append_left nodes (m ∷ []) no_node k (within k c))) refl
     (path-more (next_at ends nodes) (prev_at ends nodes) (length nodes) (length (nodes ++ m ∷ [])) None ns None (omega (arith, length-append nodes (m ∷ []))) h)
 
-pub row-pushed : (ends : Node) (nodes nodes2 : List Node) → nodes2 ≡ nodes ++ no_node ∷ [] → IsRing ends nodes (ring_of ends nodes)
+pub row-pushed : (ends : RingNode) (nodes nodes2 : List RingNode) → nodes2 ≡ nodes ++ no_node ∷ [] → IsRing ends nodes (ring_of ends nodes)
     → IsRow ends nodes2 (ring_of ends nodes) (kept_from (ring_of ends nodes) 0 nodes ++ sides_of no_node ∷ [])
 row-pushed ends nodes nodes2 e h =
     let ns = ring_of ends nodes in
@@ -201,7 +201,7 @@ row-pushed ends nodes nodes2 e h =
 pub stands : (place : Option ℕ) (n : ℕ) (ns now : List ℕ) → ns ≡ now → StandsIn now place → place ≡ Some n → has_node ns n ≡ true
 stands place n ns now e h is = ap (λ (l : List ℕ). has_node l n) e ∙ subst (λ (p : Option ℕ). StandsIn now p) is h
 
-module _ (ends ends2 : Node) (nodes nodes1 nodes2 : List Node) (n : ℕ) where
+module _ (ends ends2 : RingNode) (nodes nodes1 nodes2 : List RingNode) (n : ℕ) where
   -- the ring, its nodes and what is kept, once a node was put between the neighbours that it has
   pub row-linked : (xs ys : List ℕ) → length nodes1 ≡ length nodes → length nodes2 ≡ length nodes → ((k : ℕ) → (k ≡ n → ⊥) → get_or nodes1 k no_node ≡ get_or nodes k no_node)
       → IsRing ends nodes (ring_of ends nodes) → ring_of ends nodes ≡ xs ++ ys → has_node (ring_of ends nodes) n ≡ false → n < length nodes
@@ -215,7 +215,7 @@ module _ (ends ends2 : Node) (nodes nodes1 nodes2 : List Node) (n : ℕ) where
       let path = subst (λ l. IsRing ends nodes l) parts h in
       let path1 : IsPath (next_at ends nodes1) (prev_at ends nodes1) (length nodes) None (xs ++ ys) None =
       path-stays (next_at ends nodes) (prev_at ends nodes) (next_at ends nodes1) (prev_at ends nodes1) (length nodes) None (xs ++ ys) None refl
-      (λ k c. ap (λ (m : Node). m.next) (others k (not-here k c))) (λ k c. ap (λ (m : Node). m.prev) (others k (not-here k c))) refl path in
+      (λ k c. ap (λ (m : RingNode). m.next) (others k (not-here k c))) (λ k c. ap (λ (m : RingNode). m.prev) (others k (not-here k c))) refl path in
       let ring2 : IsRing ends2 nodes2 (xs ++ n ∷ ys) =
       subst (λ (c : ℕ). IsPath (next_at ends2 nodes2) (prev_at ends2 nodes2) c None (xs ++ n ∷ ys) None) (sym len2)
       (path-linked (next_at ends nodes1) (prev_at ends nodes1) (next_at ends2 nodes2) (prev_at ends2 nodes2) (length nodes) xs n ys path1 out within p q on back) in
@@ -226,15 +226,15 @@ module _ (ends ends2 : Node) (nodes nodes1 nodes2 : List Node) (n : ℕ) where
             ∙ kept-changed (xs ++ ys) (xs ++ n ∷ ys) nodes nodes2 n None len2 within (λ k other. has-other xs n ys k other)
             (λ k other outside. let out2 = hasn't (xs ++ ys) k outside in (
               back (Some k) ∙ same-elsewhere (next_at ends nodes1 (Some n)) (Some n) (prev_at ends nodes1) k (λ e. not-first ys k (λ c. out2 (contains-right xs ys k c)) (sym q ∙ e))
-                  ∙ ap (λ (m : Node). m.prev) (others k other),
+                  ∙ ap (λ (m : RingNode). m.prev) (others k other),
               on (Some k) ∙ same-elsewhere (prev_at ends nodes1 (Some n)) (Some n) (next_at ends nodes1) k (λ e. not-last xs k (λ c. out2 (contains-left xs ys k c)) (sym p ∙ e))
-                  ∙ ap (λ (m : Node). m.next) (others k other),
+                  ∙ ap (λ (m : RingNode). m.next) (others k other),
             ))
             (ap (λ b. cond b None (neighbours nodes2 n)) (has-itself xs n ys))
             ∙ ap (λ l. set (kept_from l 0 nodes) n None) (sym parts),
       )
 
-module _ (ends : Node) (nodes : List Node) (h : IsRing ends nodes (ring_of ends nodes)) where
+module _ (ends : RingNode) (nodes : List RingNode) (h : IsRing ends nodes (ring_of ends nodes)) where
   -- the neighbours of a gap are nodes
   pub gap-within : (xs ys : List ℕ) → ring_of ends nodes ≡ xs ++ ys → IsWithin (length nodes) (last_of xs) × IsWithin (length nodes) (first_of ys)
   gap-within xs ys e =
@@ -294,7 +294,7 @@ place-parted ns (Some n) h =
     (part.0 ++ n ∷ [], part.1, part.2 ∙ sym (append_assoc part.0 (n ∷ []) part.1), last-end None part.0 n)
 
 -- a linked node keeps nothing
-pub kept-none : (ends : Node) (nodes : List Node) → IsRing ends nodes (ring_of ends nodes) → (n : ℕ) → has_node (ring_of ends nodes) n ≡ true
+pub kept-none : (ends : RingNode) (nodes : List RingNode) → IsRing ends nodes (ring_of ends nodes) → (n : ℕ) → has_node (ring_of ends nodes) n ≡ true
     → slice_get (kept_from (ring_of ends nodes) 0 nodes) n ≡ Some None
 kept-none ends nodes h n in' =
     let ns = ring_of ends nodes in
@@ -303,7 +303,7 @@ kept-none ends nodes h n in' =
     ∙ ap Some (kept-at ns nodes n within ∙ ap (λ b. cond b None (neighbours nodes n)) in')
 
 -- what keeps neighbours stands outside, and they are its neighbours
-pub kept-is : (linked : List ℕ) (nodes : List Node) (n : ℕ) (sides : Sides) → slice_get (kept_from linked 0 nodes) n ≡ Some (Some sides)
+pub kept-is : (linked : List ℕ) (nodes : List RingNode) (n : ℕ) (sides : Sides) → slice_get (kept_from linked 0 nodes) n ≡ Some (Some sides)
     → (n < length nodes) × (has_node linked n ≡ false) × ((get_or nodes n no_node).prev ≡ sides.0) × ((get_or nodes n no_node).next ≡ sides.1)
 kept-is linked nodes n sides h =
     let inside = slice_get_within (kept_from linked 0 nodes) n (Some sides) h in
@@ -323,7 +323,7 @@ kept-is linked nodes n sides h =
 
 -- the same for the nodes as the calls hand them over and take them back
 
-pub unlinked-row : (ends ends2 : Node) (nodes mid new : List Node) (len n : ℕ) → mid ≡ nodes → IsRing ends nodes (ring_of ends nodes) → has_node (ring_of ends nodes) n ≡ true
+pub unlinked-row : (ends ends2 : RingNode) (nodes mid new : List RingNode) (len n : ℕ) → mid ≡ nodes → IsRing ends nodes (ring_of ends nodes) → has_node (ring_of ends nodes) n ≡ true
     → ((at : Option ℕ) → next_at ends2 new at ≡ with_place (prev_at ends mid (Some n)) (next_at ends mid (Some n)) (next_at ends mid) at)
     → ((at : Option ℕ) → prev_at ends2 new at ≡ with_place (next_at ends mid (Some n)) (prev_at ends mid (Some n)) (prev_at ends mid) at)
     → length new ≡ length mid → len ≡ length nodes
@@ -331,12 +331,12 @@ pub unlinked-row : (ends ends2 : Node) (nodes mid new : List Node) (len n : ℕ)
 unlinked-row ends ends2 nodes mid new len n e h in' on back same all =
     let left = without_node n (ring_of ends nodes) in
     let kept = set (kept_from (ring_of ends nodes) 0 nodes) n (Some (beside (eqb n) (ring_of ends nodes))) in
-    subst (λ (l : List Node). IsRow ends2 l left kept) (sym (written len new nodes (same ∙ ap length e ∙ sym all)))
-    (subst (λ (l : List Node). IsRow ends2 new (without_node n (ring_of ends l)) (set (kept_from (ring_of ends l) 0 l) n (Some (beside (eqb n) (ring_of ends l))))) e
-    (row-unlinked ends ends2 mid new same n (subst (λ (l : List Node). IsRing ends l (ring_of ends l)) (sym e) h)
-    (subst (λ (l : List Node). has_node (ring_of ends l) n ≡ true) (sym e) in') on back))
+    subst (λ (l : List RingNode). IsRow ends2 l left kept) (sym (written len new nodes (same ∙ ap length e ∙ sym all)))
+    (subst (λ (l : List RingNode). IsRow ends2 new (without_node n (ring_of ends l)) (set (kept_from (ring_of ends l) 0 l) n (Some (beside (eqb n) (ring_of ends l))))) e
+    (row-unlinked ends ends2 mid new same n (subst (λ (l : List RingNode). IsRing ends l (ring_of ends l)) (sym e) h)
+    (subst (λ (l : List RingNode). has_node (ring_of ends l) n ≡ true) (sym e) in') on back))
 
-pub linked-row : (ends ends2 : Node) (nodes nodes1 mid new old : List Node) (len n : ℕ) (xs ys : List ℕ) → mid ≡ nodes1
+pub linked-row : (ends ends2 : RingNode) (nodes nodes1 mid new old : List RingNode) (len n : ℕ) (xs ys : List ℕ) → mid ≡ nodes1
     → length nodes1 ≡ length nodes → ((k : ℕ) → (k ≡ n → ⊥) → get_or nodes1 k no_node ≡ get_or nodes k no_node)
     → IsRing ends nodes (ring_of ends nodes) → ring_of ends nodes ≡ xs ++ ys → has_node (ring_of ends nodes) n ≡ false → n < length nodes
     → prev_at ends nodes1 (Some n) ≡ last_of xs → next_at ends nodes1 (Some n) ≡ first_of ys
@@ -346,22 +346,22 @@ pub linked-row : (ends ends2 : Node) (nodes nodes1 mid new old : List Node) (len
     → IsRow ends2 (take len (new ++ drop (length new) old)) (xs ++ n ∷ ys) (set (kept_from (ring_of ends nodes) 0 nodes) n None)
 linked-row ends ends2 nodes nodes1 mid new old len n xs ys e len1 others h parts out within p q on back same all =
     let len-mid : length mid ≡ length nodes = ap length e ∙ len1 in
-    subst (λ (l : List Node). IsRow ends2 l (xs ++ n ∷ ys) (set (kept_from (ring_of ends nodes) 0 nodes) n None)) (sym (written len new old (same ∙ len-mid ∙ sym all)))
-    (row-linked ends ends2 nodes mid new n xs ys len-mid (same ∙ len-mid) (λ k other. ap (λ (l : List Node). get_or l k no_node) e ∙ others k other) h parts out within
-    (ap (λ (l : List Node). prev_at ends l (Some n)) e ∙ p) (ap (λ (l : List Node). next_at ends l (Some n)) e ∙ q) on back)
+    subst (λ (l : List RingNode). IsRow ends2 l (xs ++ n ∷ ys) (set (kept_from (ring_of ends nodes) 0 nodes) n None)) (sym (written len new old (same ∙ len-mid ∙ sym all)))
+    (row-linked ends ends2 nodes mid new n xs ys len-mid (same ∙ len-mid) (λ k other. ap (λ (l : List RingNode). get_or l k no_node) e ∙ others k other) h parts out within
+    (ap (λ (l : List RingNode). prev_at ends l (Some n)) e ∙ p) (ap (λ (l : List RingNode). next_at ends l (Some n)) e ∙ q) on back)
 
 -- a place at which what stands behind it is known
-pub gap-behind : (ends : Node) (nodes : List Node) → IsRing ends nodes (ring_of ends nodes) → (place next : Option ℕ) (xs ys : List ℕ)
+pub gap-behind : (ends : RingNode) (nodes : List RingNode) → IsRing ends nodes (ring_of ends nodes) → (place next : Option ℕ) (xs ys : List ℕ)
     → ring_of ends nodes ≡ xs ++ ys → last_of xs ≡ place → next ≡ first_of (behind place (ring_of ends nodes)) → next ≡ first_of ys
 gap-behind ends nodes h place next xs ys e last is =
     is ∙ ap (λ (l : List ℕ). first_of (behind place l)) e ∙ ap (λ p. first_of (behind p (xs ++ ys))) (sym last)
     ∙ ap first_of (behind-front xs ys (ring-once ends nodes (xs ++ ys) (subst (λ l. IsRing ends nodes l) e h)))
 
 -- a node that is put behind a place, with its neighbours written
-module _ (ends : Node) (nodes : List Node) (h : IsRing ends nodes (ring_of ends nodes)) (place next : Option ℕ) (n : ℕ) (within : n < length nodes)
-    (stands-in : StandsIn (ring_of ends nodes) place) (is : next ≡ first_of (behind place (ring_of ends nodes))) (mid : List Node) (e : mid ≡ set nodes n (record { prev = place; next = next })) where
+module _ (ends : RingNode) (nodes : List RingNode) (h : IsRing ends nodes (ring_of ends nodes)) (place next : Option ℕ) (n : ℕ) (within : n < length nodes)
+    (stands-in : StandsIn (ring_of ends nodes) place) (is : next ≡ first_of (behind place (ring_of ends nodes))) (mid : List RingNode) (e : mid ≡ set nodes n (record { prev = place; next = next })) where
   placed-at : get_or mid n no_node ≡ record { prev = place; next = next }
-  placed-at = ap (λ (l : List Node). get_or l n no_node) e ∙ get_or-set_same nodes n (record { prev = place; next = next }) no_node within
+  placed-at = ap (λ (l : List RingNode). get_or l n no_node) e ∙ get_or-set_same nodes n (record { prev = place; next = next }) no_node within
 
   placed-length : length mid ≡ length nodes
   placed-length = ap length e ∙ length-set nodes n (record { prev = place; next = next })
@@ -374,16 +374,16 @@ module _ (ends : Node) (nodes : List Node) (h : IsRing ends nodes (ring_of ends 
       let part = place-parted (ring_of ends nodes) place stands-in in
       let gap = gap-within ends nodes h part.0 part.1 part.2 in
       subst (λ (c : ℕ). IsWithin c (prev_at ends mid (Some n))) (sym placed-length)
-      (subst (IsWithin (length nodes)) (part.3 ∙ sym (ap (λ (m : Node). m.prev) placed-at)) gap.0)
+      (subst (IsWithin (length nodes)) (part.3 ∙ sym (ap (λ (m : RingNode). m.prev) placed-at)) gap.0)
 
   pub placed-next : IsWithin (length mid) (next_at ends mid (Some n))
   placed-next =
       let part = place-parted (ring_of ends nodes) place stands-in in
       let gap = gap-within ends nodes h part.0 part.1 part.2 in
       subst (λ (c : ℕ). IsWithin c (next_at ends mid (Some n))) (sym placed-length)
-      (subst (IsWithin (length nodes)) (sym (ap (λ (m : Node). m.next) placed-at ∙ gap-behind ends nodes h place next part.0 part.1 part.2 part.3 is)) gap.1)
+      (subst (IsWithin (length nodes)) (sym (ap (λ (m : RingNode). m.next) placed-at ∙ gap-behind ends nodes h place next part.0 part.1 part.2 part.3 is)) gap.1)
 
-  module _ (ends2 : Node) (new old : List Node) (len : ℕ) (out : has_node (ring_of ends nodes) n ≡ false)
+  module _ (ends2 : RingNode) (new old : List RingNode) (len : ℕ) (out : has_node (ring_of ends nodes) n ≡ false)
       (on : (at : Option ℕ) → next_at ends2 new at ≡ with_place (prev_at ends mid (Some n)) (Some n) (next_at ends mid) at)
       (back : (at : Option ℕ) → prev_at ends2 new at ≡ with_place (next_at ends mid (Some n)) (Some n) (prev_at ends mid) at)
       (same : length new ≡ length mid) (all : len ≡ length nodes) where
@@ -391,30 +391,30 @@ module _ (ends : Node) (nodes : List Node) (h : IsRing ends nodes (ring_of ends 
         → IsRow ends2 (take len (new ++ drop (length new) old)) (xs ++ n ∷ ys) (set (kept_from (ring_of ends nodes) 0 nodes) n None)
     placed-row xs ys parts last =
         linked-row ends ends2 nodes mid mid new old len n xs ys refl placed-length
-        (λ k other. ap (λ (l : List Node). get_or l k no_node) e ∙ get_or-set_other nodes n k (record { prev = place; next = next }) no_node other)
-        h parts out within (ap (λ (m : Node). m.prev) placed-at ∙ sym last)
-        (ap (λ (m : Node). m.next) placed-at ∙ gap-behind ends nodes h place next xs ys parts last is) on back same all
+        (λ k other. ap (λ (l : List RingNode). get_or l k no_node) e ∙ get_or-set_other nodes n k (record { prev = place; next = next }) no_node other)
+        h parts out within (ap (λ (m : RingNode). m.prev) placed-at ∙ sym last)
+        (ap (λ (m : RingNode). m.next) placed-at ∙ gap-behind ends nodes h place next xs ys parts last is) on back same all
 
     pub placed-somewhere : (xs : List ℕ) × (ys : List ℕ) × IsRow ends2 (take len (new ++ drop (length new) old)) (xs ++ n ∷ ys) (set (kept_from (ring_of ends nodes) 0 nodes) n None)
     placed-somewhere = let part = place-parted (ring_of ends nodes) place stands-in in (part.0, part.1, placed-row part.0 part.1 part.2 part.3)
 
 -- a node that is put back between the neighbours that it keeps
-module _ (ends : Node) (nodes : List Node) (h : IsRing ends nodes (ring_of ends nodes)) (n : ℕ) (xs ys : List ℕ) (parts : ring_of ends nodes ≡ xs ++ ys)
-    (kept : slice_get (kept_from (ring_of ends nodes) 0 nodes) n ≡ Some (Some (last_of xs, first_of ys))) (mid : List Node) (e : mid ≡ nodes) where
+module _ (ends : RingNode) (nodes : List RingNode) (h : IsRing ends nodes (ring_of ends nodes)) (n : ℕ) (xs ys : List ℕ) (parts : ring_of ends nodes ≡ xs ++ ys)
+    (kept : slice_get (kept_from (ring_of ends nodes) 0 nodes) n ≡ Some (Some (last_of xs, first_of ys))) (mid : List RingNode) (e : mid ≡ nodes) where
   pub returned-node : n < length mid
   returned-node = let k = kept-is (ring_of ends nodes) nodes n (last_of xs, first_of ys) kept in omega (arith, k.0, ap length e)
 
   pub returned-prev : IsWithin (length mid) (prev_at ends mid (Some n))
   returned-prev =
       let k = kept-is (ring_of ends nodes) nodes n (last_of xs, first_of ys) kept in
-      subst (λ (l : List Node). IsWithin (length l) (prev_at ends l (Some n))) (sym e) (subst (IsWithin (length nodes)) (sym k.2) ((gap-within ends nodes h xs ys parts).0))
+      subst (λ (l : List RingNode). IsWithin (length l) (prev_at ends l (Some n))) (sym e) (subst (IsWithin (length nodes)) (sym k.2) ((gap-within ends nodes h xs ys parts).0))
 
   pub returned-next : IsWithin (length mid) (next_at ends mid (Some n))
   returned-next =
       let k = kept-is (ring_of ends nodes) nodes n (last_of xs, first_of ys) kept in
-      subst (λ (l : List Node). IsWithin (length l) (next_at ends l (Some n))) (sym e) (subst (IsWithin (length nodes)) (sym k.3) ((gap-within ends nodes h xs ys parts).1))
+      subst (λ (l : List RingNode). IsWithin (length l) (next_at ends l (Some n))) (sym e) (subst (IsWithin (length nodes)) (sym k.3) ((gap-within ends nodes h xs ys parts).1))
 
-  pub returned-row : (ends2 : Node) (new old : List Node) (len : ℕ)
+  pub returned-row : (ends2 : RingNode) (new old : List RingNode) (len : ℕ)
       → ((at : Option ℕ) → next_at ends2 new at ≡ with_place (prev_at ends mid (Some n)) (Some n) (next_at ends mid) at)
       → ((at : Option ℕ) → prev_at ends2 new at ≡ with_place (next_at ends mid (Some n)) (Some n) (prev_at ends mid) at)
       → length new ≡ length mid → len ≡ length nodes
@@ -424,7 +424,7 @@ module _ (ends : Node) (nodes : List Node) (h : IsRing ends nodes (ring_of ends 
       linked-row ends ends2 nodes nodes mid new old len n xs ys e refl (λ k other. refl) h parts k.1 k.0 k.2 k.3 on back same all
 
 -- the next node, and what follows it
-pub behind-step : (ends : Node) (nodes : List Node) → IsRing ends nodes (ring_of ends nodes) → (place : Option ℕ) (n : ℕ) → StandsIn (ring_of ends nodes) place
+pub behind-step : (ends : RingNode) (nodes : List RingNode) → IsRing ends nodes (ring_of ends nodes) → (place : Option ℕ) (n : ℕ) → StandsIn (ring_of ends nodes) place
     → Some n ≡ first_of (behind place (ring_of ends nodes)) → (behind place (ring_of ends nodes) ≡ n ∷ behind (Some n) (ring_of ends nodes)) × (has_node (ring_of ends nodes) n ≡ true)
 behind-step ends nodes h place n stands-in e =
     let ns = ring_of ends nodes in
@@ -451,15 +451,15 @@ path-less next prev count less start [] end le h = h
 path-less next prev count less start (w ∷ xs) end le h =
     (h.0, h.1, le w (contains-head w xs), path-less next prev count less (Some w) xs end (λ k c. le k (contains-tail w xs k c)) h.3)
 
-pub ring-popped : (ends : Node) (nodes less : List Node) (m : Node) (ns : List ℕ) → nodes ≡ less ++ m ∷ [] → IsRing ends nodes ns → ((k : ℕ) → Contains ns k → k < length less)
+pub ring-popped : (ends : RingNode) (nodes less : List RingNode) (m : RingNode) (ns : List ℕ) → nodes ≡ less ++ m ∷ [] → IsRing ends nodes ns → ((k : ℕ) → Contains ns k → k < length less)
     → IsRing ends less ns
 ring-popped ends nodes less m ns e h within =
     path-less (next_at ends less) (prev_at ends less) (length nodes) (length less) None ns None within
     (path-stays (next_at ends nodes) (prev_at ends nodes) (next_at ends less) (prev_at ends less) (length nodes) None ns None refl
-    (λ k c. ap (λ (x : Node). x.next) (sym (ap (λ (l : List Node). get_or l k no_node) e ∙ get_or_append_left less (m ∷ []) no_node k (within k c))))
-    (λ k c. ap (λ (x : Node). x.prev) (sym (ap (λ (l : List Node). get_or l k no_node) e ∙ get_or_append_left less (m ∷ []) no_node k (within k c)))) refl h)
+    (λ k c. ap (λ (x : RingNode). x.next) (sym (ap (λ (l : List RingNode). get_or l k no_node) e ∙ get_or_append_left less (m ∷ []) no_node k (within k c))))
+    (λ k c. ap (λ (x : RingNode). x.prev) (sym (ap (λ (l : List RingNode). get_or l k no_node) e ∙ get_or_append_left less (m ∷ []) no_node k (within k c)))) refl h)
 
-module _ (ends : Node) (nodes less : List Node) (m : Node) (e : nodes ≡ less ++ m ∷ []) (h : IsRing ends nodes (ring_of ends nodes))
+module _ (ends : RingNode) (nodes less : List RingNode) (m : RingNode) (e : nodes ≡ less ++ m ∷ []) (h : IsRing ends nodes (ring_of ends nodes))
     (out : has_node (ring_of ends nodes) (length (kept_from (ring_of ends nodes) 0 nodes) - 1) ≡ false) where
   last-out : (k : ℕ) → Contains (ring_of ends nodes) k → k < length less
   last-out k c =
@@ -501,12 +501,12 @@ module _ (ends : Node) (nodes less : List Node) (m : Node) (e : nodes ≡ less +
       front-same (z ∷ xs) (w ∷ ys) x y h = let i : z ≡ w = cc in ap (λ a. a ∷ xs) i ∙ ap (λ l. w ∷ l) (front-same xs ys x y cc)
 
 -- where no node is taken there is none
-pub none-popped : (ends : Node) (nodes less : List Node) → nodes ≡ less ++ [] → length nodes ≡ 0 → IsRing ends nodes (ring_of ends nodes)
+pub none-popped : (ends : RingNode) (nodes less : List RingNode) → nodes ≡ less ++ [] → length nodes ≡ 0 → IsRing ends nodes (ring_of ends nodes)
     → IsRing ends less (ring_of ends less) × ((now : Line) → line (ring_of ends nodes) (kept_from (ring_of ends nodes) 0 nodes) ≡ with_node now
     → line (ring_of ends less) (kept_from (ring_of ends less) 0 less) ≡ now)
 none-popped ends nodes less e zero-long h =
     let same : nodes ≡ less = e ∙ append-nil less in (
-      subst (λ (l : List Node). IsRing ends l (ring_of ends l)) same h,
+      subst (λ (l : List RingNode). IsRing ends l (ring_of ends l)) same h,
       λ now i. absurd (too-long now (ap (λ (v : Line). length v.kept) i)),
     )
   where

@@ -1,7 +1,7 @@
 -- Chains of cells, one for each entry.
 use Rattle.std.specs.Prelude.{◌≡◌, ℕ, ◌<◌, List, [], ◌∷◌, ◌++◌, length, map, slice_index_or, slice_set}
 use Rattle.std.specs.List.{Contains}
-use Rattle.goal_links.specs.declared.ring.Node.{Node}
+use Rattle.goal_links.specs.declared.ring.RingNode.{RingNode}
 use Rattle.goal_links.specs.declared.chains.Cell.{Cell}
 use Rattle.goal_links.specs.Ring.{IsRing, ring_of, no_node}
 
@@ -54,15 +54,15 @@ abbrev pub shortened : Chained → ℕ → Chained
 shortened all cell = record all { chains = slice_set all.chains (cell_at all.cells cell).entry (without_last (chain_with all cell)) }
 
 -- the ends of an entry's chain
-abbrev pub ends_at : List Node → ℕ → Node
+abbrev pub ends_at : List RingNode → ℕ → RingNode
 ends_at ends entry = slice_index_or ends entry no_node
 
 -- the chains that lead from some ends over nodes
-abbrev pub chains_of : List Node → List Node → List (List ℕ)
+abbrev pub chains_of : List RingNode → List RingNode → List (List ℕ)
 chains_of ends nodes = map (λ e. ring_of e nodes) ends
 
 -- what ends, nodes and cells have to do with each other
-pub record AreChains (ends nodes : List Node) (cells : List Cell) : Type 0 where
+pub record AreChains (ends nodes : List RingNode) (cells : List Cell) : Type 0 where
   pub paired : length cells ≡ length nodes
   pub rings : (entry : ℕ) → entry < length ends → IsRing (ends_at ends entry) nodes (ring_of (ends_at ends entry) nodes)
   -- the cells of a chain are of its entry

@@ -1,22 +1,22 @@
 -- Rings of nodes: from the ends of a ring to its first node, on from node to node, and back to the ends.
 use Rattle.std.specs.Prelude.{◌≡◌, ℕ, zero, suc, ◌<◌, Bool, true, false, eqb, cond, List, [], ◌∷◌, length, Option, Some, None, slice_index_or}
-use Rattle.goal_links.specs.declared.ring.Node.{Node}
+use Rattle.goal_links.specs.declared.ring.RingNode.{RingNode}
 
 -- what stands behind the last node
-abbrev pub no_node : Node
+abbrev pub no_node : RingNode
 no_node = record { prev = None; next = None }
 
 -- the node at a place, or the ends of the ring
-abbrev pub node_at : Node → List Node → Option ℕ → Node
+abbrev pub node_at : RingNode → List RingNode → Option ℕ → RingNode
 node_at ends nodes None = ends
 node_at ends nodes (Some n) = slice_index_or nodes n no_node
 
 -- what follows a place
-abbrev pub next_at : Node → List Node → Option ℕ → Option ℕ
+abbrev pub next_at : RingNode → List RingNode → Option ℕ → Option ℕ
 next_at ends nodes place = (node_at ends nodes place).next
 
 -- what stands before a place
-abbrev pub prev_at : Node → List Node → Option ℕ → Option ℕ
+abbrev pub prev_at : RingNode → List RingNode → Option ℕ → Option ℕ
 prev_at ends nodes place = (node_at ends nodes place).prev
 
 -- whether two places are one
@@ -31,19 +31,19 @@ abbrev pub with_place : Option ℕ → Option ℕ → (Option ℕ → Option ℕ
 with_place place to old at = cond (same_place place at) to (old at)
 
 -- what follows each place once the neighbours of a node were joined
-abbrev pub next_without : Node → List Node → ℕ → Option ℕ → Option ℕ
+abbrev pub next_without : RingNode → List RingNode → ℕ → Option ℕ → Option ℕ
 next_without ends nodes n = with_place (prev_at ends nodes (Some n)) (next_at ends nodes (Some n)) (next_at ends nodes)
 
 -- what stands before each
-abbrev pub prev_without : Node → List Node → ℕ → Option ℕ → Option ℕ
+abbrev pub prev_without : RingNode → List RingNode → ℕ → Option ℕ → Option ℕ
 prev_without ends nodes n = with_place (next_at ends nodes (Some n)) (prev_at ends nodes (Some n)) (prev_at ends nodes)
 
 -- what follows each place once a node was put between its neighbours
-abbrev pub next_with : Node → List Node → ℕ → Option ℕ → Option ℕ
+abbrev pub next_with : RingNode → List RingNode → ℕ → Option ℕ → Option ℕ
 next_with ends nodes n = with_place (prev_at ends nodes (Some n)) (Some n) (next_at ends nodes)
 
 -- what stands before each
-abbrev pub prev_with : Node → List Node → ℕ → Option ℕ → Option ℕ
+abbrev pub prev_with : RingNode → List RingNode → ℕ → Option ℕ → Option ℕ
 prev_with ends nodes n = with_place (next_at ends nodes (Some n)) (Some n) (prev_at ends nodes)
 
 -- the ends, or one of so many nodes
@@ -58,15 +58,15 @@ IsPath next prev count «from» (n ∷ ns) to =
     (next «from» ≡ Some n) × (prev (Some n) ≡ «from») × (n < count) × IsPath next prev count (Some n) ns to
 
 -- the ring leads over these nodes
-abbrev pub IsRing : Node → List Node → List ℕ → Type 0
+abbrev pub IsRing : RingNode → List RingNode → List ℕ → Type 0
 IsRing ends nodes ns = IsPath (next_at ends nodes) (prev_at ends nodes) (length nodes) None ns None
 
 -- the nodes from a place on, at most so many
-abbrev pub nodes_from : List Node → ℕ → Option ℕ → List ℕ
+abbrev pub nodes_from : List RingNode → ℕ → Option ℕ → List ℕ
 nodes_from nodes zero place = []
 nodes_from nodes (suc count) None = []
 nodes_from nodes (suc count) (Some n) = n ∷ nodes_from nodes count ((slice_index_or nodes n no_node).next)
 
 -- the nodes of a ring
-abbrev pub ring_of : Node → List Node → List ℕ
+abbrev pub ring_of : RingNode → List RingNode → List ℕ
 ring_of ends nodes = nodes_from nodes (length nodes) ends.next

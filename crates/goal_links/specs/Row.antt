@@ -1,7 +1,7 @@
 -- Rows of nodes, of which those that stand outside keep neighbours.
 use Rattle.std.specs.Prelude.{◌≡◌, ℕ, suc, ◌<◌, Bool, true, not, eqb, cond, List, [], ◌∷◌, ◌++◌, Option, Some, None, IsTrue, slice_get, slice_set}
 use Rattle.std.specs.List.{list_any, filter}
-use Rattle.goal_links.specs.declared.ring.Node.{Node}
+use Rattle.goal_links.specs.declared.ring.RingNode.{RingNode}
 use Rattle.goal_links.specs.Beside.{first_of, last_of, beside, behind_first, AreBeside}
 
 -- what contracts see of a row
@@ -30,7 +30,7 @@ behind None ns = ns
 behind (Some n) ns = behind_first (eqb n) ns
 
 -- what some nodes, counted from a number, keep outside a row
-abbrev pub kept_from : List ℕ → ℕ → List Node → List (Option (Option ℕ × Option ℕ))
+abbrev pub kept_from : List ℕ → ℕ → List RingNode → List (Option (Option ℕ × Option ℕ))
 kept_from linked n [] = []
 kept_from linked n (node ∷ nodes) = cond (has_node linked n) None (Some (node.prev, node.next)) ∷ kept_from linked (suc n) nodes
 

@@ -3,9 +3,10 @@ ghost use Rattle.std.specs.Prelude.{◌≡◌, ◌<◌, [], Some, OnOk, OnErr, I
 ghost use Rattle.goal_links.specs.declared.chains.Cell.{Cell};
 ghost use Rattle.goal_links.specs.Beside.{first_of, last_of};
 ghost use Rattle.goal_links.specs.Row.{has_node, behind};
-ghost use Rattle.goal_links.specs.Chains.{Chained, cell_at, chain_at, chain_with, with_chain, with_cell, with_cell_at, appended, shortened};
+ghost use Rattle.goal_links.specs.Chains.{Chained, cell_at, chain_at, chain_with, with_chain, with_cell, with_cell_at};
+ghost use Rattle.goal_links.specs.Chains.{appended, shortened};
 
-use crate::ring::{Node, alone, relink, unlink};
+use crate::ring::{RingNode, alone, relink, unlink};
 use plan_types::NoMemory;
 use std::alloc::Global;
 use std::marker::Model;
@@ -21,8 +22,8 @@ pub(crate) struct Cell {
 #[derive(Drop)]
 pub(crate) struct Chains {
     // Of each entry the ends of its chain.
-    ends: Vec<Node>,
-    nodes: Vec<Node>,
+    ends: Vec<RingNode>,
+    nodes: Vec<RingNode>,
     cells: Vec<Cell>,
 }
 
@@ -111,23 +112,14 @@ impl Chains {
         self.ends[entry].next
     }
 
-    pub(crate) fn last(&self, entry: usize) -> Option<usize>
-        requires { entry < length self.now.chains }
-        ensures last { result ≡ last_of (chain_at self.now.chains entry) }
-        ensures within { IfSome result (λ cell. cell < length self.now.cells) }
-        ensures linked { IfSome result (λ cell. IsTrue (has_node (chain_with self.now cell) cell)) }
-        ensures owner { IfSome result (λ cell. (cell_at self.now.cells cell).entry ≡ entry) }
-    {
-        self.ends[entry].prev
-    }
-
     pub(crate) fn next(&self, cell: usize) -> Option<usize>
         requires cell { cell < length self.now.cells }
         requires linked { IsTrue (has_node (chain_with self.now cell) cell) }
         ensures next { result ≡ first_of (behind (Some cell) (chain_with self.now cell)) }
         ensures within { IfSome result (λ next. next < length self.now.cells) }
         ensures linked { IfSome result (λ next. IsTrue (has_node (chain_with self.now next) next)) }
-        ensures owner { IfSome result (λ next. (cell_at self.now.cells next).entry ≡ (cell_at self.now.cells cell).entry) }
+        ensures owner { IfSome result (λ next.
+            (cell_at self.now.cells next).entry ≡ (cell_at self.now.cells cell).entry) }
     {
         self.nodes[cell].next
     }
@@ -142,7 +134,7 @@ impl Chains {
     {
         let entry = self.cells[cell].entry;
         let prev = self.ends[entry].prev;
-        self.nodes[cell] = Node { prev, next: None };
+        self.nodes[cell] = RingNode { prev, next: None };
         relink(&mut self.ends[entry], &mut self.nodes, cell);
     }
 

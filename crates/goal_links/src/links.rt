@@ -1,5 +1,6 @@
 // Entries of variables that are linked in goal order, each with a chain of cells.
-ghost use Rattle.std.specs.Prelude.{◌≡◌, ◌<◌, List, [], Some, None, Option, OnOk, OnErr, IfOk, IfSome, IsTrue, MatchOption, true, false, length, slice_get, slice_index_or};
+ghost use Rattle.std.specs.Prelude.{◌≡◌, ◌<◌, List, [], Some, None, Option, IfSome, MatchOption, true, false, IsTrue};
+ghost use Rattle.std.specs.Prelude.{IfOk, OnOk, OnErr, length, slice_get, slice_index_or};
 ghost use Rattle.std.specs.Option.{option_map};
 ghost use Rattle.qualified_goals.specs.Variable.{is_before};
 ghost use Rattle.choice_problem.specs.ConflictSet.{is_rising, has};
@@ -7,10 +8,12 @@ ghost use Rattle.goal_links.specs.declared.chains.Cell.{Cell};
 ghost use Rattle.goal_links.specs.Beside.{first_of, last_of};
 ghost use Rattle.goal_links.specs.Row.{has_node, without_node, behind, StandsIn, AreBelow};
 ghost use Rattle.goal_links.specs.Chains.{cell_at, chain_at};
-ghost use Rattle.goal_links.specs.Links.{Entries, HaveOneEntry, is_entry_before, var_at, MayReturn, WasLinked, vars_behind, registered, with_cell, with_cell_at, linked, unlinked, chain_with, lengthened, shortened};
+ghost use Rattle.goal_links.specs.Links.{Entries, HaveOneEntry, MayReturn, WasLinked, is_entry_before, var_at};
+ghost use Rattle.goal_links.specs.Links.{vars_behind, registered, with_cell, with_cell_at, linked, unlinked};
+ghost use Rattle.goal_links.specs.Links.{chain_with, lengthened, shortened};
 
 use crate::chains::{Cell, Chains};
-use crate::row::Row;
+use crate::row::LinkRow;
 use crate::vars::Vars;
 use choice_problem::{Var, is_before};
 use plan_types::NoMemory;
@@ -20,7 +23,7 @@ use std::marker::Model;
 /// Entries of variables, of which some are linked in goal order, each with a chain of cells.
 pub struct Links {
     vars: Vars,
-    row: Row,
+    row: LinkRow,
     // One that is linked still, near which the next place is looked for.
     recent: Option<usize>,
     chains: Chains,
@@ -54,7 +57,7 @@ impl Links {
     {
         Links {
             vars: Vars::new(alloc),
-            row: Row::new(alloc),
+            row: LinkRow::new(alloc),
             recent: None,
             chains: Chains::new(alloc),
         }
@@ -62,7 +65,8 @@ impl Links {
 
     /// The entry of a variable that was registered.
     pub fn entry_of(&self, v: Var) -> Option<u64>
-        ensures entry { MatchOption result (has self.now.vars v ≡ false) (λ entry. slice_get self.now.vars entry ≡ Some v) }
+        ensures entry { MatchOption result (has self.now.vars v ≡ false)
+            (λ entry. slice_get self.now.vars entry ≡ Some v) }
         ensures one { HaveOneEntry self.now.vars }
     {
         match self.vars.find(v) {
@@ -182,7 +186,8 @@ impl Links {
     pub fn relink(&mut self, entry: u64)
         requires { MayReturn self.old entry }
         ensures linked { self.new ≡ linked self.old entry }
-        ensures back { (before : Entries) → self.old ≡ unlinked before entry → WasLinked before entry → self.new ≡ before }
+        ensures back { (before : Entries) → self.old ≡ unlinked before entry → WasLinked before entry
+            → self.new ≡ before }
     {
         self.row.relink(entry as usize);
     }
@@ -239,17 +244,6 @@ impl Links {
         number(self.chains.first(entry as usize))
     }
 
-    /// The last cell of an entry's chain.
-    pub fn chain_last(&self, entry: u64) -> Option<u64>
-        requires { entry < length self.now.vars }
-        ensures last { result ≡ last_of (chain_at self.now.chains entry) }
-        ensures within { IfSome result (λ cell. cell < length self.now.cells) }
-        ensures linked { IfSome result (λ cell. IsTrue (has_node (chain_with self.now cell) cell)) }
-        ensures owner { IfSome result (λ cell. (cell_at self.now.cells cell).entry ≡ entry) }
-    {
-        number(self.chains.last(entry as usize))
-    }
-
     /// The cell that follows one in its chain.
     pub fn chain_next(&self, cell: u64) -> Option<u64>
         requires cell { cell < length self.now.cells }
@@ -257,7 +251,8 @@ impl Links {
         ensures next { result ≡ first_of (behind (Some cell) (chain_with self.now cell)) }
         ensures within { IfSome result (λ next. next < length self.now.cells) }
         ensures linked { IfSome result (λ next. IsTrue (has_node (chain_with self.now next) next)) }
-        ensures owner { IfSome result (λ next. (cell_at self.now.cells next).entry ≡ (cell_at self.now.cells cell).entry) }
+        ensures owner { IfSome result (λ next.
+            (cell_at self.now.cells next).entry ≡ (cell_at self.now.cells cell).entry) }
     {
         number(self.chains.next(cell as usize))
     }
@@ -273,7 +268,7 @@ fn number(place: Option<usize>) -> Option<u64>
 }
 
 // The last entry before a variable.
-fn place_before(vars: &Vars, row: &Row, recent: Option<usize>, v: Var) -> Option<usize>
+fn place_before(vars: &Vars, row: &LinkRow, recent: Option<usize>, v: Var) -> Option<usize>
     requires below { AreBelow (length vars.now) row.now.linked }
     requires recent { StandsIn row.now.linked recent }
     ensures linked { StandsIn row.now.linked result }
@@ -290,9 +285,9 @@ fn place_before(vars: &Vars, row: &Row, recent: Option<usize>, v: Var) -> Option
     place
 }
 
-// A place before a variable. It is looked for from the recent entry back and from the front on in turn, so that the nearer
-// of the two decides how long it takes.
-fn start(vars: &Vars, row: &Row, recent: Option<usize>, v: Var) -> Option<usize>
+// A place before a variable. It searches from the recent entry back and from the front on, a step of each in turn, so
+// that the nearer of the two decides how long it takes.
+fn start(vars: &Vars, row: &LinkRow, recent: Option<usize>, v: Var) -> Option<usize>
     requires below { AreBelow (length vars.now) row.now.linked }
     requires recent { StandsIn row.now.linked recent }
     ensures linked { StandsIn row.now.linked result }
@@ -324,7 +319,7 @@ fn is_entry_before(vars: &Vars, place: Option<usize>, v: Var) -> bool
 }
 
 // What stands in front of an entry.
-fn in_front(row: &Row, place: Option<usize>) -> Option<usize>
+fn in_front(row: &LinkRow, place: Option<usize>) -> Option<usize>
     requires { StandsIn row.now.linked place }
     ensures { StandsIn row.now.linked result }
 {
@@ -335,7 +330,7 @@ fn in_front(row: &Row, place: Option<usize>) -> Option<usize>
 }
 
 // What is the recent entry once one was taken out.
-fn recent_without(row: &Row, recent: Option<usize>, entry: usize) -> Option<usize>
+fn recent_without(row: &LinkRow, recent: Option<usize>, entry: usize) -> Option<usize>
     requires linked { IsTrue (has_node row.now.linked entry) }
     requires recent { StandsIn row.now.linked recent }
     ensures { StandsIn (without_node entry row.now.linked) result }

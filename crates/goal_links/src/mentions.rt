@@ -1,5 +1,6 @@
 // Mentions of variables by demands, in chains, so that those of one variable are found.
-ghost use Rattle.std.specs.Prelude.{◌≡◌, ◌+◌, ◌<◌, ◌≤◌, ◌++◌, List, [], ◌∷◌, IfOk, IfSome, IsTrue, MatchOption, OnOk, Some, false, length, take, drop, map, slice_get, slice_index_or};
+ghost use Rattle.std.specs.Prelude.{◌≡◌, ◌+◌, ◌<◌, ◌≤◌, ◌++◌, List, [], ◌∷◌, Some, false, IsTrue, IfSome, MatchOption};
+ghost use Rattle.std.specs.Prelude.{IfOk, OnOk, OnErr, length, take, drop, map, slice_get, slice_index_or};
 ghost use Rattle.std.specs.Option.{option_map};
 ghost use Rattle.choice_problem.specs.ConflictSet.{has, is_rising};
 ghost use Rattle.goal_links.specs.Beside.{first_of};
@@ -20,8 +21,8 @@ pub struct Mention {
     pub place: usize,
 }
 
-/// Mentions in an order, of which those of one variable are a chain, and the entries of their variables. What was taken off
-/// stays ready, and what is made ready ahead is put on without memory.
+/// Mentions in an order, of which those of one variable are a chain, and the entries of their variables. What was taken
+/// off stays ready, and what is made ready ahead is put on without memory.
 #[derive(Drop)]
 pub struct Mentions {
     // A cell for each mention, of its variable's entry. Its demand is the place.
@@ -115,19 +116,22 @@ impl Mentions {
     /// The entry of the variable that stands at a place of their order, in which those come last that may be said next.
     pub fn entry_at(&self, index: usize) -> u64
         requires { index < length self.now.said + length self.now.spare }
-        ensures { (m : Mention) → slice_get (self.now.said ++ self.now.spare) index ≡ Some m → slice_get self.now.row.vars result ≡ Some m.var }
+        ensures { (m : Mention) → slice_get (self.now.said ++ self.now.spare) index ≡ Some m
+            → slice_get self.now.row.vars result ≡ Some m.var }
     {
         self.links.owner_of(index as u64)
     }
 }
 
 impl Mentions {
-    /// Makes a mention ready behind some that are, and tells how many are then. Only this takes memory.
+    /// Makes a mention ready behind some that are, and tells how many are then. Only this takes memory. Where memory is
+    /// wanting the mentions are as they were; the variable may have an entry then that no mention has.
     pub fn prepare(&mut self, index: usize, mention: Mention) -> Result<usize, NoMemory>
         requires { index ≤ length self.old.spare }
         ensures said { self.new.said ≡ self.old.said }
         ensures spare { IfOk result (λ ready. take ready self.new.spare ≡ take index self.old.spare ++ mention ∷ []) }
         ensures ready { IfOk result (λ ready. (ready ≡ index + 1) × (ready ≤ length self.new.spare)) }
+        ensures err { OnErr result (self.new.spare ≡ self.old.spare) }
         ensures row { KeepRow self.old.row self.new.row }
     {
         let entry = self.links.register(mention.var)?;
@@ -167,7 +171,8 @@ impl Mentions {
 
     /// Takes the last mention off.
     pub fn pop(&mut self) -> Option<Mention>
-        ensures last { MatchOption result ((self.old.said ≡ []) × (self.new.said ≡ [])) (λ last. self.old.said ≡ self.new.said ++ last ∷ []) }
+        ensures last { MatchOption result ((self.old.said ≡ []) × (self.new.said ≡ []))
+            (λ last. self.old.said ≡ self.new.said ++ last ∷ []) }
         ensures row { KeepRow self.old.row self.new.row }
     {
         if self.count == 0 {
@@ -194,7 +199,8 @@ impl Mentions {
 impl Mentions {
     /// The entry of a variable that was mentioned or made ready at some time.
     pub fn entry_of(&self, v: Var) -> Option<u64>
-        ensures { MatchOption result (has self.now.row.vars v ≡ false) (λ entry. slice_get self.now.row.vars entry ≡ Some v) }
+        ensures { MatchOption result (has self.now.row.vars v ≡ false)
+            (λ entry. slice_get self.now.row.vars entry ≡ Some v) }
     {
         self.links.entry_of(v)
     }
@@ -264,7 +270,8 @@ impl Mentions {
     // The places that the cells of an entry's chain have.
     fn places_in(&self, alloc: Global, entry: u64) -> Result<Vec<usize>, NoMemory>
         requires { entry < length self.now.row.vars }
-        ensures { IfOk result (λ found. found.items ≡ map (place_at self.now.row.cells) (chain_at self.now.row.chains entry)) }
+        ensures { IfOk result (λ found.
+            found.items ≡ map (place_at self.now.row.cells) (chain_at self.now.row.chains entry)) }
     {
         let links = &self.links;
         let mut found = Vec::new(alloc);

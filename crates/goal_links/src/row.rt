@@ -1,21 +1,23 @@
 // A row of nodes, of which those that were taken out keep their neighbours.
-ghost use Rattle.std.specs.Prelude.{◌≡◌, ◌<◌, ◌++◌, [], ◌∷◌, Some, None, Option, List, ℕ, IsTrue, OnOk, OnErr, IfSome, true, false, ◌-◌, length, slice_get, slice_set};
+ghost use Rattle.std.specs.Prelude.{◌≡◌, ◌<◌, ◌-◌, ◌++◌, [], ◌∷◌, List, ℕ, true, false, IsTrue, Some, None, Option};
+ghost use Rattle.std.specs.Prelude.{IfSome, OnOk, OnErr, length, slice_get, slice_set};
 ghost use Rattle.goal_links.specs.Beside.{first_of};
-ghost use Rattle.goal_links.specs.Row.{Line, has_node, without_node, behind, StandsIn, MayReturn, IsParted, IsGap, with_node, unlinked};
+ghost use Rattle.goal_links.specs.Row.{Line, has_node, without_node, behind, StandsIn, MayReturn, IsParted, IsGap};
+ghost use Rattle.goal_links.specs.Row.{with_node, unlinked};
 
-use crate::ring::{Node, alone, relink, unlink};
+use crate::ring::{RingNode, alone, relink, unlink};
 use plan_types::NoMemory;
 use std::alloc::Global;
 use std::marker::Model;
 
 /// Nodes by number, of which some are linked.
 #[derive(Drop)]
-pub(crate) struct Row {
-    ends: Node,
-    nodes: Vec<Node>,
+pub(crate) struct LinkRow {
+    ends: RingNode,
+    nodes: Vec<RingNode>,
 }
 
-impl Model for Row {
+impl Model for LinkRow {
     ghost use Rattle.goal_links.specs.Ring.{IsRing, ring_of};
     ghost use Rattle.goal_links.specs.Row.{Line, kept_from};
 
@@ -29,11 +31,11 @@ impl Model for Row {
     ghost invariant = { λ r. IsRing r.ends r.nodes.items (ring_of r.ends r.nodes.items) };
 }
 
-impl Row {
-    pub(crate) fn new(alloc: Global) -> Row
+impl LinkRow {
+    pub(crate) fn new(alloc: Global) -> LinkRow
         ensures { result ≡ record { linked = []; kept = [] } }
     {
-        Row {
+        LinkRow {
             ends: alone(),
             nodes: Vec::new(alloc),
         }
@@ -60,7 +62,8 @@ impl Row {
     pub(crate) fn next(&self, place: Option<usize>) -> Option<usize>
         requires { StandsIn self.now.linked place }
         ensures next { result ≡ first_of (behind place self.now.linked) }
-        ensures rest { IfSome result (λ next. behind place self.now.linked ≡ next ∷ behind (Some next) self.now.linked) }
+        ensures rest { IfSome result (λ next.
+            behind place self.now.linked ≡ next ∷ behind (Some next) self.now.linked) }
         ensures linked { IfSome result (λ next. has_node self.now.linked next ≡ true) }
     {
         match place {
@@ -81,11 +84,12 @@ impl Row {
         requires node { node < length self.old.kept }
         requires new { has_node self.old.linked node ≡ false }
         requires place { StandsIn self.old.linked place }
-        ensures linked { (front rest : List ℕ) → IsParted self.old.linked place front rest → self.new.linked ≡ front ++ node ∷ rest }
+        ensures linked { (front rest : List ℕ) → IsParted self.old.linked place front rest
+            → self.new.linked ≡ front ++ node ∷ rest }
         ensures kept { self.new.kept ≡ slice_set self.old.kept node None }
     {
         let next = self.next(place);
-        self.nodes[node] = Node { prev: place, next };
+        self.nodes[node] = RingNode { prev: place, next };
         relink(&mut self.ends, &mut self.nodes, node);
     }
 
@@ -101,7 +105,8 @@ impl Row {
     /// Puts a node between the neighbours that it keeps.
     pub(crate) fn relink(&mut self, node: usize)
         requires { MayReturn self.old node }
-        ensures linked { (front rest : List ℕ) → IsGap self.old node front rest → self.new.linked ≡ front ++ node ∷ rest }
+        ensures linked { (front rest : List ℕ) → IsGap self.old node front rest
+            → self.new.linked ≡ front ++ node ∷ rest }
         ensures kept { self.new.kept ≡ slice_set self.old.kept node None }
     {
         relink(&mut self.ends, &mut self.nodes, node);

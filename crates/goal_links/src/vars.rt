@@ -1,5 +1,6 @@
 // Variables by number, in the order in which they were added.
-ghost use Rattle.std.specs.Prelude.{◌≡◌, ◌<◌, ◌++◌, [], ◌∷◌, Some, OnOk, OnErr, MatchOption, false, length, take, slice_get};
+ghost use Rattle.std.specs.Prelude.{◌≡◌, ◌<◌, ◌++◌, [], ◌∷◌, Some, OnOk, OnErr, MatchOption, false};
+ghost use Rattle.std.specs.Prelude.{length, take, slice_get};
 ghost use Rattle.choice_problem.specs.ConflictSet.{has};
 
 use choice_problem::Var;

@@ -26,8 +26,8 @@ use Rattle.choice_problem.specs.Guide.{Guide, IsGuide, least, most_met}
 use Rattle.choice_problem.specs.Guides.{least-is-guide, most-met-is-guide}
 use Rattle.choice_problem.specs.Answer.{Ended, Found, Failed, GaveUp, guided_answer, answer_of, outcome_by, outcome_of, printed}
 use Rattle.choice_problem.specs.Sound.{AreNone, IsRightEnd, IsValidEnd}
-use Rattle.choice_problem.proofs.First.{passes-all}
-use Rattle.choice_problem.proofs.Trails.{Passes, next-unchosen, passes-trail}
+use Rattle.choice_problem.proofs.FirstAssignment.{passes-all}
+use Rattle.choice_problem.proofs.TrailLemmas.{Passes, next-unchosen, passes-trail}
 use Rattle.common_laws.specs.Lists.{contains-none}
 use Rattle.cabal_problem.specs.Problem.{IsProblemOf, problem_of}
 use Rattle.cabal_problem.specs.WholeDemands.{whole_problem}

@@ -15,16 +15,16 @@ use Rattle.choice_problem.specs.Conflict.{Edge, edges_by, edges_of, leads, lies_
 use Rattle.common_laws.specs.Each.{some-then}
 use Rattle.common_laws.specs.Lists.{contains-left, filter-none, filter-nothing}
 use Rattle.common_laws.specs.Passing.{any-front}
-use Rattle.choice_problem.proofs.Active.{active-push}
-use Rattle.choice_problem.proofs.Conflicts.{lasting-circular, lasting-agree, lasting-none}
-use Rattle.choice_problem.proofs.Pairs.{clash-front}
-use Rattle.choice_problem.proofs.Trails.{value_in-kept}
+use Rattle.choice_problem.proofs.ActiveDemands.{active-push}
+use Rattle.choice_problem.proofs.ConflictLemmas.{lasting-circular, lasting-agree, lasting-none}
+use Rattle.choice_problem.proofs.DemandPairs.{clash-front}
+use Rattle.choice_problem.proofs.TrailLemmas.{value_in-kept}
 use Rattle.choice_problem.proofs.TrailEnds.{new-split, new-front}
 use Rattle.validation.specs.View.{View, Represents, listed_counts, counts_before, view_of}
 use Rattle.choice_stack.specs.Stack.{undone, front_of, last_number}
-use Rattle.choice_stack.proofs.Stacks.{front-of, last-number, seen-same}
-use Rattle.choice_problem.proofs.Conflicts.{all-front}
-use Rattle.validation.proofs.Views.{after-push, counts-push, listed-push}
+use Rattle.choice_stack.proofs.StackLemmas.{front-of, last-number, seen-same}
+use Rattle.choice_problem.proofs.ConflictLemmas.{all-front}
+use Rattle.validation.proofs.NextViews.{after-push, counts-push, listed-push}
 
 -- fewer demands have no more cycles
 

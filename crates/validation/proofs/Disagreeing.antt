@@ -15,19 +15,19 @@ use Rattle.choice_problem.specs.Active.{asks_for}
 use Rattle.choice_problem.specs.Trail.{value_in}
 use Rattle.choice_problem.specs.Twins.{differ}
 use Rattle.common_laws.specs.Lists.{contains-head, contains-tail, contains-left, contains-right, contains-append, contains-filter}
-use Rattle.choice_problem.proofs.Active.{yes-kept}
-use Rattle.choice_problem.proofs.Pairs.{disagree-are, are-disagreeing, none-apart}
+use Rattle.choice_problem.proofs.ActiveDemands.{yes-kept}
+use Rattle.choice_problem.proofs.DemandPairs.{disagree-are, are-disagreeing, none-apart}
 use Rattle.choice_problem.proofs.TrailEnds.{value-push}
-use Rattle.goal_links.proofs.Mapped.{get-contains}
+use Rattle.goal_links.proofs.NamedItems.{get-contains}
 use Rattle.demand_agreement.specs.Places.{no_demand, places_from, places_on}
 use Rattle.demand_agreement.specs.Clashes.{AreSuspects}
-use Rattle.demand_agreement.proofs.Below.{places-below}
-use Rattle.demand_agreement.proofs.Members.{place-there}
+use Rattle.demand_agreement.proofs.NumberBounds.{places-below}
+use Rattle.demand_agreement.proofs.Disagreements.{place-there}
 use Rattle.choice_stack.specs.declared.addition.Addition.{Addition}
 use Rattle.validation.specs.View.{View}
 use Rattle.validation.specs.Pending.{ArePending, place_if}
 use Rattle.choice_stack.specs.Stack.{AllBelow, is_turned, made, names, rising_from, turned}
-use Rattle.choice_stack.proofs.Below.{below-more, below-append}
+use Rattle.choice_stack.proofs.DemandPlaces.{below-more, below-append}
 use Rattle.validation.proofs.Weighed.{pending-active, pending-count}
 
 -- what stands at a place of the first of two lists

@@ -1,4 +1,4 @@
-pub mod Views
+pub mod NextViews
 pub mod Verdicts
 pub mod Settles
 pub mod Backs

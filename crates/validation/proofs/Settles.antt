@@ -5,8 +5,8 @@ use Rattle.choice_problem.specs.declared.problem.Demand.{Demand}
 use Rattle.choice_problem.specs.Problem.{Problem, Lawful}
 use Rattle.choice_problem.specs.Trail.{demands_after}
 use Rattle.choice_problem.specs.Active.{active}
-use Rattle.choice_problem.proofs.Active.{active-is, yes-active}
-use Rattle.choice_problem.proofs.Trails.{demand-after}
+use Rattle.choice_problem.proofs.ActiveDemands.{active-is, yes-active}
+use Rattle.choice_problem.proofs.TrailLemmas.{demand-after}
 use Rattle.validation.specs.View.{View, Represents}
 use Rattle.choice_stack.specs.Stack.{IsSettled}
 

@@ -12,17 +12,17 @@ use Rattle.choice_problem.specs.Trail.AreNew.{before_any, one_more}
 use Rattle.choice_problem.specs.Active.{made_active, active, is_open}
 use Rattle.choice_problem.specs.Conflict.{barred_set, refuses, refused_set, is_broken, broken_set, set_of_first, lasting_sets, lasting_set, first_set, conflict}
 use Rattle.choice_problem.specs.ConflictSet.{has}
-use Rattle.choice_problem.proofs.Active.{active-push}
-use Rattle.choice_problem.proofs.Ends.{lasting-start}
-use Rattle.choice_problem.proofs.Rules.{front-some, front-none, rest-none}
-pub use Rattle.demand_agreement.proofs.Members.{none-from}
+use Rattle.choice_problem.proofs.ActiveDemands.{active-push}
+use Rattle.choice_problem.proofs.SearchEnds.{lasting-start}
+use Rattle.choice_problem.proofs.FirstSets.{front-some, front-none, rest-none}
+pub use Rattle.demand_agreement.proofs.Disagreements.{none-from}
 use Rattle.validation.specs.View.{View, Represents, listed_counts, counts_before, view_of}
 use Rattle.validation.specs.Pending.{count_before}
 use Rattle.choice_stack.specs.Stack.{made, turned}
 use Rattle.validation.specs.Verdict.{set_after}
-use Rattle.choice_stack.proofs.Stacks.{seen-same}
+use Rattle.choice_stack.proofs.StackLemmas.{seen-same}
 use Rattle.validation.proofs.Weighed.{before-is}
-use Rattle.validation.proofs.Views.{after-push, made-turned, counts-push, listed-push, known-open}
+use Rattle.validation.proofs.NextViews.{after-push, made-turned, counts-push, listed-push, known-open}
 
 -- a choice that a stack may try
 pub record Ready (p : Problem) (x : View) (c : Choice) : Type 0 where

@@ -18,9 +18,9 @@ use Rattle.validation.specs.View.{View}
 use Rattle.choice_stack.specs.Stack.{front_of, is_first, is_owned_by, is_turned, made, names, targets_by, turned}
 use Rattle.choice_stack.specs.declared.addition.Addition.{Addition}
 use Rattle.validation.specs.Pending.{ArePending, AreOwned, count_before, first_broken}
-use Rattle.choice_stack.proofs.Graphs.{edge-names, edge-owned}
-use Rattle.choice_stack.proofs.Opened.{get-front, get-right}
-use Rattle.choice_stack.proofs.Stacks.{front-of, last-number}
+use Rattle.choice_stack.proofs.DemandGraphs.{edge-names, edge-owned}
+use Rattle.choice_stack.proofs.OpenVariables.{get-front, get-right}
+use Rattle.choice_stack.proofs.StackLemmas.{front-of, last-number}
 
 -- the first that is broken
 

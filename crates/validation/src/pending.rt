@@ -79,8 +79,8 @@ impl<'a> Pending<'a> {
 }
 
 impl<'a> Pending<'a> {
-    /// The set of the first two demands that must agree and don't, where there were none before the choice: a demand that would
-    /// become active, or one on the variable of the choice, is among them.
+    /// The set of the first two demands that must agree and don't, where there were none before the choice. One of them is
+    /// a demand that would become active, or one on the variable of the choice.
     pub(crate) fn disagreement(&self, alloc: Global) -> Result<Option<ConflictSet>, NoMemory>
         requires { first_clash (front_of self.now.trail) (take (count_before self.now) self.now.active) ≡ None }
         ensures { IfOk result (λ set. set ≡ agreement_set self.now.trail self.now.active) }

@@ -5,7 +5,7 @@ ghost use Rattle.choice_problem.specs.Problem.{Problem, IsChoice, Lawful};
 ghost use Rattle.choice_problem.specs.Active.{is_open, least_open, open_after, reason};
 ghost use Rattle.choice_problem.specs.Conflict.{lasting_set, conflict};
 ghost use Rattle.choice_problem.specs.ConflictSet.{set_of};
-ghost use Rattle.choice_problem.specs.Trail.{value_in};
+ghost use Rattle.choice_problem.specs.Trail.{AreOfDifferentVars, value_in};
 ghost use Rattle.choice_stack.specs.Addition.{IsAddition};
 ghost use Rattle.validation.specs.Pending.{AreOwned, count_before};
 ghost use Rattle.validation.specs.View.{View, Represents, view_of};
@@ -60,6 +60,7 @@ impl State {
         self.stack.open_after(v)
     }
 
+    /// Whether a variable is open.
     pub fn is_open(&self, v: Var) -> bool
         ensures { (p : Problem) → Lawful p → Represents p self.now → result ≡ is_open p self.now.trail v }
     {
@@ -68,7 +69,8 @@ impl State {
 
     /// Why an open variable is so: the variables of the condition of the first demand on it that became active.
     pub fn reason(&self, alloc: Global, v: Var) -> Result<ConflictSet, NoMemory>
-        ensures { (p : Problem) → Represents p self.now → IfOk result (λ set. set ≡ set_of (reason p self.now.trail v)) }
+        ensures { (p : Problem) → Represents p self.now
+            → IfOk result (λ set. set ≡ set_of (reason p self.now.trail v)) }
     {
         let set = self.stack.reason(alloc, v)?;
         Ok(set)
@@ -76,13 +78,16 @@ impl State {
 
     /// The choices, in the order in which they were made.
     pub fn trail(&self) -> &Trail
-        ensures { result.now ≡ self.now.trail }
+        ensures trail { result.now ≡ self.now.trail }
+        ensures different { AreOfDifferentVars result.now }
     {
         self.stack.trail()
     }
 
+    /// The choices alone.
     pub fn into_trail(self) -> List<Choice>
-        ensures { result ≡ self.trail }
+        ensures trail { result ≡ self.trail }
+        ensures different { AreOfDifferentVars result }
     {
         self.stack.into_trail()
     }
@@ -99,7 +104,8 @@ impl State {
         requires open { least_open (C.problem choices.now) self.old.trail ≡ Some c.var }
         requires value { c.val < (C.problem choices.now).domain c.var }
         ensures ticks { steps.new ≡ steps.old + 1 }
-        ensures verdict { IfOk result (λ verdict. verdict ≡ verdict_of (conflict (C.problem choices.now) self.old.trail c)) }
+        ensures verdict { IfOk result (λ verdict.
+            verdict ≡ verdict_of (conflict (C.problem choices.now) self.old.trail c)) }
         ensures leaves { IfOk result (λ verdict. Leaves (C.problem choices.now) self.old self.new c verdict) }
         ensures err { OnErr result (self.new ≡ self.old) }
     {
@@ -118,7 +124,8 @@ impl State {
         requires open { IsTrue (is_open (C.problem choices.now) self.old.trail c.var) }
         requires value { c.val < (C.problem choices.now).domain c.var }
         ensures ticks { steps.new ≡ steps.old + 1 }
-        ensures verdict { IfOk result (λ verdict. verdict ≡ verdict_of (conflict (C.problem choices.now) self.old.trail c)) }
+        ensures verdict { IfOk result (λ verdict.
+            verdict ≡ verdict_of (conflict (C.problem choices.now) self.old.trail c)) }
         ensures leaves { IfOk result (λ verdict. Leaves (C.problem choices.now) self.old self.new c verdict) }
         ensures err { OnErr result (self.new ≡ self.old) }
     {

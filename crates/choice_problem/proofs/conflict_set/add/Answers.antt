@@ -1,7 +1,7 @@
 use Rattle.std.proofs.Common.{◌≡◌, ◌∙◌, sym, ap, true, false, insert, arith}
 use Rattle.choice_problem.specs.ConflictSet.{has, place_of}
-use Rattle.choice_problem.proofs.Sets.{place-within}
-use Rattle.choice_problem.proofs.InOrder.{with-there, inserted}
+use Rattle.choice_problem.proofs.VariableSets.{place-within}
+use Rattle.choice_problem.proofs.RisingVariables.{with-there, inserted}
 use Rattle.choice_problem.proofs.conflict_set.add.Goals as goal
 
 pub returns-then-stands_at : goal.returns-then-stands_at

@@ -2,7 +2,7 @@ use Rattle.std.proofs.Common.{◌≡◌, List, None, ◌++◌, ◌∷◌, [], So
 use Rattle.std.proofs.lemmas.List.{append-nil}
 use Rattle.qualified_goals.specs.declared.variable.Var.{Var}
 use Rattle.choice_problem.specs.ConflictSet.{is_rising, union, front_of, behind}
-use Rattle.choice_problem.proofs.Sets.{rising-set_of}
+use Rattle.choice_problem.proofs.VariableSets.{rising-set_of}
 use Rattle.choice_problem.proofs.Merges.{behind-rising, behind-shorter, union-front, union-none}
 use Rattle.choice_problem.proofs.conflict_set.merged.Goals as goal
 

@@ -1,6 +1,6 @@
 use Rattle.std.proofs.Common.{drop, ap, ◌∙◌}
 use Rattle.choice_problem.specs.ConflictSet.{is_rising}
-use Rattle.choice_problem.proofs.Sets.{rising-set_of}
+use Rattle.choice_problem.proofs.VariableSets.{rising-set_of}
 use Rattle.choice_problem.proofs.conflict_set.rising.Goals as goal
 
 pub add-requires : goal.add-requires

@@ -1,7 +1,7 @@
 use Rattle.std.proofs.Common.{◌≡◌, ◌∙◌, sym, ap, true, false, arith}
 use Rattle.std.specs.List.{remove}
 use Rattle.choice_problem.specs.ConflictSet.{is_rising, has, place_of}
-use Rattle.choice_problem.proofs.InOrder.{there-within, removed, rising-without, without-none}
+use Rattle.choice_problem.proofs.RisingVariables.{there-within, removed, rising-without, without-none}
 use Rattle.choice_problem.proofs.conflict_set.take_out.Goals as goal
 
 pub remove-requires : goal.remove-requires

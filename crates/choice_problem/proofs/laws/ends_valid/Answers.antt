@@ -1,5 +1,5 @@
 -- whoever picks, a search without a limit ends with a whole valid assignment, or where there is none
-use Rattle.choice_problem.proofs.Ends.{ends-valid}
+use Rattle.choice_problem.proofs.SearchEnds.{ends-valid}
 use Rattle.choice_problem.proofs.laws.ends_valid.Goals as goal
 
 pub returns : goal.returns

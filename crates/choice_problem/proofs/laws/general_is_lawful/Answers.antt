@@ -1,5 +1,5 @@
 -- a problem that keeps the laws keeps them as a general one
-use Rattle.choice_problem.proofs.Trails.{general-lawful}
+use Rattle.choice_problem.proofs.TrailLemmas.{general-lawful}
 use Rattle.choice_problem.proofs.laws.general_is_lawful.Goals as goal
 
 pub returns : goal.returns

@@ -1,5 +1,5 @@
 -- there is one first trail
-use Rattle.choice_problem.proofs.First.{one-first}
+use Rattle.choice_problem.proofs.FirstAssignment.{one-first}
 use Rattle.choice_problem.proofs.laws.one_first.Goals as goal
 
 pub returns : goal.returns

@@ -1,7 +1,7 @@
 use Rattle.std.proofs.Common.{arith, rules}
 use Rattle.std.proofs.lemmas.List.Sorted.{IsPartitionPoint-from_clause}
 use Rattle.qualified_goals.specs.Variable.{is_before}
-use Rattle.choice_problem.proofs.InOrder.{rising-parted, parted-place}
+use Rattle.choice_problem.proofs.RisingVariables.{rising-parted, parted-place}
 use Rattle.choice_problem.proofs.rising.place_of.Goals as goal
 
 pub returns : goal.returns

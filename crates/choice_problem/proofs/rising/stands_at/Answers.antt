@@ -1,5 +1,5 @@
 use Rattle.std.proofs.Common.{◌∙◌}
-use Rattle.choice_problem.proofs.InOrder.{there-some, there-none}
+use Rattle.choice_problem.proofs.RisingVariables.{there-some, there-none}
 use Rattle.choice_problem.proofs.rising.stands_at.Goals as goal
 
 pub returns-in-Some : goal.returns-in-Some

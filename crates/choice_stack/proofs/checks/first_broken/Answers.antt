@@ -1,4 +1,4 @@
-use Rattle.choice_stack.proofs.Below.{below-at}
+use Rattle.choice_stack.proofs.DemandPlaces.{below-at}
 use Rattle.choice_stack.proofs.checks.first_broken.Goals as goal
 
 pub demand_in-requires : goal.demand_in-requires

@@ -1,4 +1,4 @@
-use Rattle.choice_stack.proofs.Below.{below-at}
+use Rattle.choice_stack.proofs.DemandPlaces.{below-at}
 use Rattle.choice_stack.proofs.checks.owners_on.Goals as goal
 
 pub push_owner_on-requires : goal.push_owner_on-requires

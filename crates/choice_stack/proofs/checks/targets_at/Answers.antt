@@ -1,4 +1,4 @@
-use Rattle.choice_stack.proofs.Below.{below-at}
+use Rattle.choice_stack.proofs.DemandPlaces.{below-at}
 use Rattle.choice_stack.proofs.checks.targets_at.Goals as goal
 
 pub demand_in-demand-requires : goal.demand_in-demand-requires

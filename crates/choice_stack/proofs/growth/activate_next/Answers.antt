@@ -7,12 +7,12 @@ use Rattle.choice_problem.specs.ConflictSet.{has}
 use Rattle.choice_problem.specs.Trail.{value_in}
 use Rattle.goal_links.specs.Mentions.{vars_at}
 use Rattle.goal_links.specs.declared.mentions.Mention.{Mention}
-use Rattle.goal_links.proofs.Walks.{at-entry}
+use Rattle.goal_links.proofs.ChainWalks.{at-entry}
 use Rattle.choice_stack.specs.Open.{is_other}
 use Rattle.choice_stack.specs.Stack.{AreOpen}
 use Rattle.choice_stack.proofs.Asked.{more-again, more-open, more-valued, not-open}
-use Rattle.choice_stack.proofs.Stacks.{chosen-other}
-use Rattle.choice_stack.proofs.Opened.{get-right}
+use Rattle.choice_stack.proofs.StackLemmas.{chosen-other}
+use Rattle.choice_stack.proofs.OpenVariables.{get-right}
 use Rattle.choice_stack.proofs.growth.activate_next.Goals as goal
 
 -- the first of those that are ready, and its entry

@@ -4,7 +4,7 @@ use Rattle.goal_links.specs.Mentions.{mention_of}
 use Rattle.goal_links.specs.declared.mentions.Mention.{Mention}
 use Rattle.choice_stack.specs.Growth.{mentions_at}
 use Rattle.choice_stack.specs.Stack.{demand_at}
-use Rattle.choice_stack.proofs.Below.{below-at}
+use Rattle.choice_stack.proofs.DemandPlaces.{below-at}
 use Rattle.choice_stack.proofs.growth.ready_goals.Goals as goal
 
 pub mention_at-requires : goal.mention_at-requires

@@ -4,7 +4,7 @@ use Rattle.choice_problem.specs.declared.problem.Choice.{Choice}
 use Rattle.choice_problem.specs.declared.problem.Demand.{Demand}
 use Rattle.goal_links.specs.declared.mentions.Mention.{Mention}
 use Rattle.choice_stack.specs.Stack.{demand_at, no_demand, watchers_by, watchers_from}
-use Rattle.choice_stack.proofs.Stacks.{waits-append}
+use Rattle.choice_stack.proofs.StackLemmas.{waits-append}
 use Rattle.choice_stack.proofs.growth.ready_watchers.Goals as goal
 
 pub loop-index-preserved : goal.loop-index-preserved

@@ -8,8 +8,8 @@ use Rattle.choice_problem.specs.Trail.{value_in}
 use Rattle.goal_links.specs.Mentions.{vars_at}
 use Rattle.goal_links.specs.declared.mentions.Mention.{Mention}
 use Rattle.goal_links.proofs.LastItems.{pop-some}
-use Rattle.goal_links.proofs.Mapped.{get-last, get-left}
-use Rattle.goal_links.proofs.Walks.{at-entry}
+use Rattle.goal_links.proofs.NamedItems.{get-last, get-left}
+use Rattle.goal_links.proofs.ChainWalks.{at-entry}
 use Rattle.choice_stack.specs.Open.{is_other}
 use Rattle.choice_stack.specs.Stack.{AreOpen}
 use Rattle.choice_stack.proofs.Asked.{last-open, less-again, less-open, less-valued}

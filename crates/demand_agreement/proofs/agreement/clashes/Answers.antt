@@ -1,4 +1,4 @@
-use Rattle.demand_agreement.proofs.Below.{below-at}
+use Rattle.demand_agreement.proofs.NumberBounds.{below-at}
 use Rattle.demand_agreement.proofs.agreement.clashes.Goals as goal
 
 pub push_clashes-requires : goal.push_clashes-requires

@@ -1,6 +1,6 @@
 use Rattle.std.proofs.Common.{◌∙◌, ℕ, List, length, sym, subst, arith}
 use Rattle.demand_agreement.specs.Places.{AllBelow}
-use Rattle.demand_agreement.proofs.Below.{places-below}
+use Rattle.demand_agreement.proofs.NumberBounds.{places-below}
 use Rattle.demand_agreement.proofs.agreement.push_apart.Goals as goal
 
 pub push_owned-requires : goal.push_owned-requires

@@ -1,4 +1,4 @@
-use Rattle.demand_agreement.proofs.Below.{below-at}
+use Rattle.demand_agreement.proofs.NumberBounds.{below-at}
 use Rattle.demand_agreement.proofs.agreement.push_owned.Goals as goal
 
 pub owns_at-requires : goal.owns_at-requires

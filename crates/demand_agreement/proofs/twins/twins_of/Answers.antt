@@ -2,7 +2,7 @@ use Rattle.std.proofs.Common.{◌∙◌, ◌++◌, ◌∷◌, [], List, Option, 
 use Rattle.std.specs.List.{filter}
 use Rattle.choice_problem.specs.declared.problem.Choice.{Choice}
 use Rattle.choice_problem.specs.Twins.{are_twins}
-use Rattle.demand_agreement.proofs.Members.{twins-split, none-from}
+use Rattle.demand_agreement.proofs.Disagreements.{twins-split, none-from}
 use Rattle.demand_agreement.proofs.twins.twins_of.Goals as goal
 use Rattle.demand_agreement.proofs.twins.twins_of.Goals.{in-Some+in_ok-push_twin, in_default}
 

@@ -1,7 +1,7 @@
 use Rattle.std.proofs.Common.{◌≡◌, ◌+◌, ◌++◌, drop, sym, ap, ◌∙◌, arith}
 use Rattle.std.specs.Prelude.{flat_map, filter}
 use Rattle.choice_problem.specs.Conflict.{edges_of, named_by, lies_on_cycle, circular}
-use Rattle.goal_links.proofs.Mapped.{get-contains}
+use Rattle.goal_links.proofs.NamedItems.{get-contains}
 use Rattle.demand_cycles.specs.Ring.{closes_from}
 use Rattle.demand_cycles.proofs.Rings.{kept-one, left-one, kept-all}
 use Rattle.demand_cycles.proofs.cycles.named_on_cycles.Goals as goal

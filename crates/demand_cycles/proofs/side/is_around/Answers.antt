@@ -1,5 +1,5 @@
 use Rattle.std.proofs.Common.{◌∙◌}
-use Rattle.goal_links.proofs.Keys.{found-has}
+use Rattle.goal_links.proofs.VariableKeys.{found-has}
 use Rattle.demand_cycles.proofs.side.is_around.Goals as goal
 
 pub returns : goal.returns

@@ -1,7 +1,7 @@
 use Rattle.std.proofs.Common.{◌≡◌, ◌∙◌, ◌∷◌, [], Option, List, sym, ap, subst, take, ℕ}
 use Rattle.qualified_goals.specs.declared.variable.Var.{Var}
 use Rattle.choice_problem.specs.Conflict.{circular, first_set, agreement_set}
-use Rattle.choice_problem.proofs.Conflicts.{lasting-agree, lasting-circular}
+use Rattle.choice_problem.proofs.ConflictLemmas.{lasting-agree, lasting-circular}
 use Rattle.validation.specs.Pending.{count_before}
 use Rattle.choice_stack.specs.Stack.{front_of}
 use Rattle.validation.proofs.state.lasting_fault.Goals as goal

@@ -1,7 +1,7 @@
 -- the variable that the guide picks gets a node, or none is open and the trail is whole
 use Rattle.std.proofs.Common.{◌++◌, ◌∷◌, [], ap, sym, ◌∙◌}
 use Rattle.choice_problem.specs.Active.{open_in}
-use Rattle.validation.proofs.Views.{known-open}
+use Rattle.validation.proofs.NextViews.{known-open}
 use Rattle.backjump.specs.Walk.{search_of}
 use Rattle.backjump.proofs.Moves.{chain-given, look-none, look-some}
 use Rattle.backjump.proofs.walk.Walk.look.Goals as goal

@@ -1,6 +1,6 @@
 use Rattle.std.proofs.Common.{◌∙◌, ap}
 use Rattle.choice_problem.specs.Table.{entry}
-use Rattle.choice_problem.proofs.Tables.{stored}
+use Rattle.choice_problem.proofs.PartialMaps.{stored}
 use Rattle.choice_problem.proofs.table.Table.get.Goals as goal
 
 pub returns : goal.returns

@@ -1,5 +1,5 @@
 use Rattle.std.proofs.Common.{None}
-use Rattle.choice_problem.proofs.Tables.{updated}
+use Rattle.choice_problem.proofs.PartialMaps.{updated}
 use Rattle.choice_problem.proofs.table.Table.remove.Goals as goal
 
 pub returns : goal.returns

@@ -1,5 +1,5 @@
 use Rattle.std.proofs.Common.{Some}
-use Rattle.choice_problem.proofs.Tables.{updated}
+use Rattle.choice_problem.proofs.PartialMaps.{updated}
 use Rattle.choice_problem.proofs.table.Table.set.Goals as goal
 use Rattle.choice_problem.proofs.table.Table.set.Goals.{in-Ok, in-Err}
 

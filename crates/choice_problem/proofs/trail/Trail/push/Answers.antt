@@ -1,7 +1,7 @@
 use Rattle.std.proofs.Common.{◌∙◌, List, sym, ap}
 use Rattle.choice_problem.specs.declared.problem.Choice.{Choice}
 use Rattle.choice_problem.specs.Trail.{value_in}
-use Rattle.choice_problem.proofs.Results.{ok-where}
+use Rattle.choice_problem.proofs.InfallibleCalls.{ok-where}
 use Rattle.choice_problem.proofs.TrailEnds.{trail-push}
 use Rattle.choice_problem.proofs.trail.Trail.push.Goals as goal
 

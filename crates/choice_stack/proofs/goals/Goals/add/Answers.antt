@@ -3,7 +3,7 @@ use Rattle.choice_problem.specs.ConflictSet.{has}
 use Rattle.goal_links.specs.Links.{Entries, var_at, linked}
 use Rattle.goal_links.specs.Mentions.{Mentioned}
 use Rattle.choice_stack.specs.Open.{AreInOrder, StayKept, is_other}
-use Rattle.choice_stack.proofs.Opened.{linked-has, linked-kept, linked-order}
+use Rattle.choice_stack.proofs.OpenVariables.{linked-has, linked-kept, linked-order}
 use Rattle.choice_stack.proofs.goals.Goals.add.Goals as goal
 
 pub invariant_of-self : goal.invariant_of-self

@@ -2,7 +2,7 @@ use Rattle.std.proofs.Common.{◌≡◌, ◌<◌, ◌∙◌, ℕ, Option, Some, 
 use Rattle.goal_links.specs.Links.{var_at, vars_behind}
 use Rattle.goal_links.specs.Mentions.{Mentioned}
 use Rattle.choice_stack.specs.Open.{is_behind}
-use Rattle.choice_stack.proofs.Opened.{vars_from, from-first, from-next, stands-at, behind-is}
+use Rattle.choice_stack.proofs.OpenVariables.{vars_from, from-first, from-next, stands-at, behind-is}
 use Rattle.choice_stack.proofs.goals.Goals.after.Goals as goal
 
 pub loop-at-init : goal.loop-at-init

@@ -1,6 +1,6 @@
 use Rattle.std.proofs.Common.{◌≡◌, find, length}
 use Rattle.choice_stack.specs.Open.{is_behind}
-use Rattle.choice_stack.proofs.Opened.{vars_from, StandsAt}
+use Rattle.choice_stack.proofs.OpenVariables.{vars_from, StandsAt}
 use Rattle.choice_stack.proofs.goals.Goals.after.Given as goal
 
 abbrev pub invariant-loop-at : goal.invariant-loop-at

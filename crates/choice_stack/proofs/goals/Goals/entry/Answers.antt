@@ -2,7 +2,7 @@ use Rattle.std.proofs.Common.{◌∙◌, sym, ap}
 use Rattle.std.specs.List.{slice_get}
 use Rattle.choice_problem.specs.ConflictSet.{has}
 use Rattle.goal_links.specs.Mentions.{Mentioned}
-use Rattle.choice_stack.proofs.Opened.{found-some, found-at}
+use Rattle.choice_stack.proofs.OpenVariables.{found-some, found-at}
 use Rattle.choice_stack.proofs.goals.Goals.entry.Goals as goal
 
 pub unwrap-requires : goal.unwrap-requires

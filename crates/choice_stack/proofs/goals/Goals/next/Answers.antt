@@ -6,8 +6,8 @@ use Rattle.choice_problem.specs.ConflictSet.{is_rising}
 use Rattle.goal_links.specs.Beside.{first_of, behind_first}
 use Rattle.goal_links.specs.Links.{var_at}
 use Rattle.goal_links.specs.Mentions.{Mentioned}
-use Rattle.goal_links.proofs.Walks.{at-entry}
-use Rattle.choice_stack.proofs.Opened.{next-behind}
+use Rattle.goal_links.proofs.ChainWalks.{at-entry}
+use Rattle.choice_stack.proofs.OpenVariables.{next-behind}
 use Rattle.choice_stack.proofs.goals.Goals.next.Goals as goal
 
 pub returns-clause-next : goal.returns-clause-next

@@ -1,7 +1,7 @@
 use Rattle.std.proofs.Common.{◌∙◌, ap, subst}
 use Rattle.goal_links.specs.Mentions.{Mentioned}
 use Rattle.choice_stack.specs.Open.{StayKept, any_var}
-use Rattle.choice_stack.proofs.Opened.{row-kept, row-order}
+use Rattle.choice_stack.proofs.OpenVariables.{row-kept, row-order}
 use Rattle.choice_stack.proofs.goals.Goals.pop.Goals as goal
 
 pub invariant_of-self : goal.invariant_of-self

@@ -3,7 +3,7 @@ use Rattle.choice_problem.specs.ConflictSet.{has}
 use Rattle.goal_links.specs.Links.{Entries, var_at, linked}
 use Rattle.goal_links.specs.Mentions.{Mentioned}
 use Rattle.choice_stack.specs.Open.{AreInOrder, StayKept, MayComeBack, is_other}
-use Rattle.choice_stack.proofs.Opened.{linked-has, linked-kept, linked-order, may-come-back, back-within}
+use Rattle.choice_stack.proofs.OpenVariables.{linked-has, linked-kept, linked-order, may-come-back, back-within}
 use Rattle.choice_stack.proofs.goals.Goals.put_back.Goals as goal
 
 pub relink-requires : goal.relink-requires

@@ -6,7 +6,7 @@ use Rattle.goal_links.specs.Beside.{beside}
 use Rattle.goal_links.specs.Links.{Entries, var_at, unlinked}
 use Rattle.goal_links.specs.Mentions.{Mentioned}
 use Rattle.choice_stack.specs.Open.{AreInOrder, Keeps, StayKept, any_var}
-use Rattle.choice_stack.proofs.Opened.{taken-has, taken-keeps, taken-kept, taken-order}
+use Rattle.choice_stack.proofs.OpenVariables.{taken-has, taken-keeps, taken-kept, taken-order}
 use Rattle.choice_stack.proofs.goals.Goals.take_out.Goals as goal
 
 pub invariant_of-self : goal.invariant_of-self

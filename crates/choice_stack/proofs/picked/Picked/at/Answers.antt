@@ -3,8 +3,8 @@ use Rattle.std.specs.List.{slice_get}
 use Rattle.std.proofs.lemmas.List.{length-map}
 use Rattle.choice_problem.specs.declared.problem.Demand.{Demand}
 use Rattle.choice_stack.specs.Stack.{demand_at}
-use Rattle.choice_stack.proofs.Below.{below-at}
-use Rattle.choice_stack.proofs.Below.{demands-get}
+use Rattle.choice_stack.proofs.DemandPlaces.{below-at}
+use Rattle.choice_stack.proofs.DemandPlaces.{demands-get}
 use Rattle.choice_stack.proofs.picked.Picked.at.Goals as goal
 
 pub place_at-place-requires : goal.place_at-place-requires

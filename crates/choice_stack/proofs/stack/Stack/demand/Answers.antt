@@ -4,9 +4,9 @@ use Rattle.choice_problem.specs.declared.problem.Demand.{Demand}
 use Rattle.goal_links.specs.declared.mentions.Mention.{Mention}
 use Rattle.choice_stack.specs.View.{View}
 use Rattle.choice_stack.specs.Stack.{demand_at}
-use Rattle.choice_stack.proofs.Stacks.{marks-targets, length-active}
+use Rattle.choice_stack.proofs.StackLemmas.{marks-targets, length-active}
 use Rattle.choice_stack.proofs.Queries.{targets-below, place-below}
-use Rattle.choice_stack.proofs.Graphs.{active-at}
+use Rattle.choice_stack.proofs.DemandGraphs.{active-at}
 use Rattle.choice_stack.proofs.stack.Stack.demand.Goals as goal
 
 pub at-listed-requires : goal.at-listed-requires

@@ -3,11 +3,11 @@ use Rattle.std.proofs.Common.{◌∙◌, sym, ap, map, filter}
 use Rattle.choice_problem.specs.declared.problem.Demand.{Demand}
 use Rattle.choice_problem.specs.Active.{is_waited_for, waiting}
 use Rattle.choice_problem.specs.ConflictSet.{has}
-use Rattle.choice_problem.proofs.Sets.{has-set_of}
+use Rattle.choice_problem.proofs.VariableSets.{has-set_of}
 use Rattle.goal_links.specs.Mentions.{places_of}
 use Rattle.choice_stack.specs.Stack.{demands_at}
 use Rattle.choice_stack.specs.View.{View}
-use Rattle.choice_stack.proofs.Stacks.{marks-targets}
+use Rattle.choice_stack.proofs.StackLemmas.{marks-targets}
 use Rattle.choice_stack.proofs.Queries.{waiting-has}
 use Rattle.choice_stack.proofs.stack.Stack.is_open.Goals as goal
 

@@ -9,13 +9,13 @@ use Rattle.goal_links.specs.Beside.{beside}
 use Rattle.goal_links.specs.Links.{var_at}
 use Rattle.goal_links.specs.Mentions.{vars_at}
 use Rattle.goal_links.specs.declared.mentions.Mention.{Mention}
-use Rattle.goal_links.proofs.Walks.{at-entry}
+use Rattle.goal_links.proofs.ChainWalks.{at-entry}
 use Rattle.choice_stack.specs.declared.stack.Mark.{Mark}
 use Rattle.choice_stack.specs.Growth.{mentions_at}
 use Rattle.choice_stack.specs.Open.{Keeps, is_other}
 use Rattle.choice_stack.specs.Stack.{AllBelow, AreOpen, watchers_from}
 use Rattle.choice_stack.specs.View.{View}
-use Rattle.choice_stack.proofs.Stacks.{marks-targets, parts-grow, parts-hold, parts-keep, parts-open, parts-same, targets-vars}
+use Rattle.choice_stack.proofs.StackLemmas.{marks-targets, parts-grow, parts-hold, parts-keep, parts-open, parts-same, targets-vars}
 use Rattle.choice_stack.proofs.Grown.{asked-same, grown-targets, made-seen}
 use Rattle.choice_stack.proofs.stack.Stack.make.Goals as goal
 

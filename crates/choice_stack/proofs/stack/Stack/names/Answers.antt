@@ -5,7 +5,7 @@ use Rattle.goal_links.specs.declared.mentions.Mention.{Mention}
 use Rattle.choice_stack.specs.View.{View}
 use Rattle.goal_links.specs.Mentions.{vars_at}
 use Rattle.choice_stack.specs.Stack.{names}
-use Rattle.choice_stack.proofs.Graphs.{waits-has}
+use Rattle.choice_stack.proofs.DemandGraphs.{waits-has}
 use Rattle.choice_stack.proofs.stack.Stack.names.Goals as goal
 
 pub returns : goal.returns

@@ -6,7 +6,7 @@ use Rattle.choice_stack.specs.declared.stack.Mark.{Mark}
 use Rattle.choice_stack.specs.Growth.{mentions_at}
 use Rattle.choice_stack.specs.Stack.{rising_from}
 use Rattle.choice_stack.specs.Stack.{AllBelow, demands_at, watchers_from}
-use Rattle.choice_stack.proofs.Stacks.{parts-grow, parts-none, seen-same}
+use Rattle.choice_stack.proofs.StackLemmas.{parts-grow, parts-none, seen-same}
 use Rattle.choice_stack.proofs.Grown.{all-demands, asked-same, below-all, grown-demands, grown-targets, targets-none}
 use Rattle.choice_stack.proofs.stack.Stack.of.Goals as goal
 

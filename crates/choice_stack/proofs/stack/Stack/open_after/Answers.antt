@@ -3,7 +3,7 @@ use Rattle.qualified_goals.specs.declared.variable.Var.{Var}
 use Rattle.choice_problem.specs.Active.{waiting}
 use Rattle.choice_problem.specs.ConflictSet.{first_behind}
 use Rattle.choice_stack.specs.View.{View}
-use Rattle.choice_stack.proofs.Stacks.{marks-targets}
+use Rattle.choice_stack.proofs.StackLemmas.{marks-targets}
 use Rattle.choice_stack.proofs.Queries.{waiting-is}
 use Rattle.choice_stack.proofs.stack.Stack.open_after.Goals as goal
 use Rattle.choice_stack.proofs.stack.Stack.open_after.Goals.{in-Some+else-is_open, in_default}

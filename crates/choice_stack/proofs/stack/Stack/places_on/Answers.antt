@@ -2,7 +2,7 @@ use Rattle.std.proofs.Common.{◌∙◌, ap}
 use Rattle.demand_agreement.specs.Places.{places_on}
 use Rattle.choice_stack.specs.View.{View}
 use Rattle.choice_stack.proofs.Queries.{mentions-places}
-use Rattle.choice_stack.proofs.Stacks.{marks-targets}
+use Rattle.choice_stack.proofs.StackLemmas.{marks-targets}
 use Rattle.choice_stack.proofs.stack.Stack.places_on.Goals as goal
 
 pub returns : goal.returns

@@ -5,7 +5,7 @@ use Rattle.choice_problem.specs.Active.{asks_for, vars_of_first}
 use Rattle.choice_problem.specs.ConflictSet.{set_of}
 use Rattle.choice_stack.specs.View.{View}
 use Rattle.choice_stack.specs.Stack.{demands_at}
-use Rattle.choice_stack.proofs.Stacks.{marks-targets}
+use Rattle.choice_stack.proofs.StackLemmas.{marks-targets}
 use Rattle.choice_stack.proofs.Queries.{places-below, find-asks}
 use Rattle.choice_stack.proofs.stack.Stack.reason.Goals as goal
 

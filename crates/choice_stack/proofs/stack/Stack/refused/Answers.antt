@@ -4,7 +4,7 @@ use Rattle.choice_problem.specs.declared.problem.Demand.{Demand}
 use Rattle.choice_problem.specs.Conflict.{refuses, set_of_first}
 use Rattle.choice_stack.specs.View.{View}
 use Rattle.choice_stack.specs.Stack.{demand_at, demands_at}
-use Rattle.choice_stack.proofs.Stacks.{marks-targets}
+use Rattle.choice_stack.proofs.StackLemmas.{marks-targets}
 use Rattle.choice_stack.proofs.Queries.{places-below, find-on, refuses-only}
 use Rattle.choice_stack.proofs.stack.Stack.refused.Goals as goal
 

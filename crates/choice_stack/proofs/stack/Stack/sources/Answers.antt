@@ -7,9 +7,9 @@ use Rattle.goal_links.specs.Mentions.{places_on}
 use Rattle.demand_cycles.specs.Cycles.{HasEdge}
 use Rattle.choice_stack.specs.View.{View}
 use Rattle.choice_stack.specs.Stack.{demands_at, owners_of}
-use Rattle.choice_stack.proofs.Stacks.{marks-targets}
+use Rattle.choice_stack.proofs.StackLemmas.{marks-targets}
 use Rattle.choice_stack.proofs.Queries.{places-below}
-use Rattle.choice_stack.proofs.Graphs.{sources-edge, edge-sources}
+use Rattle.choice_stack.proofs.DemandGraphs.{sources-edge, edge-sources}
 use Rattle.choice_stack.proofs.stack.Stack.sources.Goals as goal
 
 pub owners_at-requires : goal.owners_at-requires

@@ -5,7 +5,7 @@ use Rattle.choice_problem.specs.declared.problem.Choice.{Choice}
 use Rattle.choice_problem.specs.declared.problem.Demand.{Demand}
 use Rattle.choice_stack.specs.View.{View}
 use Rattle.choice_stack.specs.Stack.{AllBelow, demands_at, targets_by, turned}
-use Rattle.choice_stack.proofs.Graphs.{targets-edge, edge-targets}
+use Rattle.choice_stack.proofs.DemandGraphs.{targets-edge, edge-targets}
 use Rattle.choice_stack.proofs.stack.Stack.targets.Goals as goal
 
 pub targets_at-requires : goal.targets_at-requires

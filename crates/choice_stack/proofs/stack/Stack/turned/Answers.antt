@@ -3,7 +3,7 @@ use Rattle.choice_problem.specs.Assignment.{is_yes}
 use Rattle.choice_problem.specs.Trail.{value_in}
 use Rattle.choice_stack.specs.View.{View}
 use Rattle.choice_stack.specs.Stack.{AllBelow, demand_at, demands_at, turned}
-use Rattle.choice_stack.proofs.Below.{below-filter}
+use Rattle.choice_stack.proofs.DemandPlaces.{below-filter}
 use Rattle.choice_stack.proofs.Turned.{turned-below, turned-seen}
 use Rattle.choice_stack.proofs.stack.Stack.turned.Goals as goal
 

@@ -11,8 +11,8 @@ use Rattle.goal_links.specs.Mentions.{vars_at}
 use Rattle.choice_stack.specs.Stack.{AreOpen, IsHeld, undone}
 use Rattle.choice_stack.specs.View.{View}
 use Rattle.goal_links.proofs.LastItems.{pop-is, pop-some}
-use Rattle.goal_links.proofs.Walks.{at-entry}
-use Rattle.choice_stack.proofs.Stacks.{chosen-last, marks-undo, comes-back, parts-undo, undone-seen}
+use Rattle.goal_links.proofs.ChainWalks.{at-entry}
+use Rattle.choice_stack.proofs.StackLemmas.{chosen-last, marks-undo, comes-back, parts-undo, undone-seen}
 use Rattle.choice_stack.proofs.stack.Stack.undo.Goals as goal
 
 pub put_back-requires : goal.put_back-requires

@@ -1,5 +1,5 @@
 use Rattle.std.proofs.Common.{◌≡◌, ℕ, List, [], ◌∷◌, ◌++◌, length, sym, ap, ◌∙◌, arith}
-use Rattle.goal_links.specs.declared.ring.Node.{Node}
+use Rattle.goal_links.specs.declared.ring.RingNode.{RingNode}
 use Rattle.goal_links.specs.declared.chains.Cell.{Cell}
 use Rattle.goal_links.specs.Chains.{Chained, with_cell, chain_at, chains_of}
 use Rattle.goal_links.specs.Row.{has_node}
@@ -12,7 +12,7 @@ place-is cells n len e f = e ∙ f
 pub invariant_of-self-2 : goal.invariant_of-self-2
 invariant_of-self-2 c =
     let room = c.in_ok-reserve.ensures.ok in
-    let nodes = c.in_ok-push.ensures.items ∙ ap (λ (n : Node). c.self.inside.nodes.items ++ n ∷ []) c.alone.ensures in
+    let nodes = c.in_ok-push.ensures.items ∙ ap (λ (n : RingNode). c.self.inside.nodes.items ++ n ∷ []) c.alone.ensures in
     let items : c.push-2.new.self.items ≡ c.reserve.new.self.items ++ c.args.cell ∷ [] = grind (arith, c.push-2.ensures.items, c.push-2.ensures.succeeds, room) in
     let cells = items ∙ ap (λ (l : List Cell). l ++ c.args.cell ∷ []) c.reserve.ensures.items in
     let in' = chain-fits c.self.inside.ends.items c.self.inside.nodes.items c.args.self.now.chains c.args.cell.entry (ap (λ (v : Chained). v.chains) c.self.view_is) c.requires in
@@ -21,7 +21,7 @@ invariant_of-self-2 c =
 pub returns-clause-ok : goal.returns-clause-ok
 returns-clause-ok c =
     let room = c.in_ok-reserve.ensures.ok in
-    let nodes = c.in_ok-push.ensures.items ∙ ap (λ (n : Node). c.self.inside.nodes.items ++ n ∷ []) c.alone.ensures in
+    let nodes = c.in_ok-push.ensures.items ∙ ap (λ (n : RingNode). c.self.inside.nodes.items ++ n ∷ []) c.alone.ensures in
     let items : c.push-2.new.self.items ≡ c.reserve.new.self.items ++ c.args.cell ∷ [] = grind (arith, c.push-2.ensures.items, c.push-2.ensures.succeeds, room) in
     let cells = items ∙ ap (λ (l : List Cell). l ++ c.args.cell ∷ []) c.reserve.ensures.items in
     let in' = chain-fits c.self.inside.ends.items c.self.inside.nodes.items c.args.self.now.chains c.args.cell.entry (ap (λ (v : Chained). v.chains) c.self.view_is) c.requires in

@@ -1,7 +1,7 @@
 use Rattle.std.proofs.Common.{◌≡◌, ◌<◌, ◌++◌, ◌∷◌, [], length, take, drop, None, refl, ap, ◌∙◌, arith}
 use Rattle.std.proofs.Math.ListN.{set}
 use Rattle.std.proofs.lemmas.List.{get_or_default}
-use Rattle.goal_links.specs.declared.ring.Node.{Node}
+use Rattle.goal_links.specs.declared.ring.RingNode.{RingNode}
 use Rattle.goal_links.specs.declared.chains.Cell.{Cell}
 use Rattle.goal_links.specs.Ring.{no_node}
 use Rattle.goal_links.specs.Row.{has_node}
@@ -15,7 +15,7 @@ relink-requires-clause-prev c =
     let entry : c.index.result.now.entry ≡ (cell_at c.self.inside.cells.items c.args.cell).entry =
     ap (λ (x : Cell). x.entry) (c.index.ensures ∙ get_or_default c.self.inside.cells.items c.args.cell c.index.result.now no_cell fits) in
     let in' = entry-fits c.self.inside.ends.items c.self.inside.nodes.items c.self.inside.cells.items c.self.invariant c.args.cell c.index.result.now.entry fits entry in
-    let prev = ap (λ (n : Node). n.prev) (c.index-2.ensures ∙ get_or_default c.self.inside.ends.items c.index.result.now.entry c.index-2.result.now no_node in') in
+    let prev = ap (λ (n : RingNode). n.prev) (c.index-2.ensures ∙ get_or_default c.self.inside.ends.items c.index.result.now.entry c.index-2.result.now no_node in') in
     let end = c.index_mut-2.ensures.value ∙ get_or_default c.self.inside.ends.items c.index.result.now.entry c.index_mut-2.result.now no_node in' in
     appended-prev c.self.inside.ends.items c.self.inside.nodes.items c.self.inside.cells.items c.self.invariant c.args.cell c.index.result.now.entry fits entry
     c.index-2.result.now.prev prev c.deref_mut.result.now c.deref_mut.ensures.value c.index_mut-2.result.now end
@@ -26,7 +26,7 @@ invariant_of-self c =
     let entry : c.index.result.now.entry ≡ (cell_at c.self.inside.cells.items c.args.cell).entry =
     ap (λ (x : Cell). x.entry) (c.index.ensures ∙ get_or_default c.self.inside.cells.items c.args.cell c.index.result.now no_cell fits) in
     let in' = entry-fits c.self.inside.ends.items c.self.inside.nodes.items c.self.inside.cells.items c.self.invariant c.args.cell c.index.result.now.entry fits entry in
-    let prev = ap (λ (n : Node). n.prev) (c.index-2.ensures ∙ get_or_default c.self.inside.ends.items c.index.result.now.entry c.index-2.result.now no_node in') in
+    let prev = ap (λ (n : RingNode). n.prev) (c.index-2.ensures ∙ get_or_default c.self.inside.ends.items c.index.result.now.entry c.index-2.result.now no_node in') in
     let end = c.index_mut-2.ensures.value ∙ get_or_default c.self.inside.ends.items c.index.result.now.entry c.index_mut-2.result.now no_node in' in
     let outside = ap (λ n. has_node (chain_at (chains_of c.self.inside.ends.items c.self.inside.nodes.items) n) c.args.cell) entry
     ∙ ap (λ (v : Chained). has_node (chain_with v c.args.cell) c.args.cell) c.self.view_is ∙ c.requires.new in
@@ -41,7 +41,7 @@ returns c =
     let entry : c.index.result.now.entry ≡ (cell_at c.self.inside.cells.items c.args.cell).entry =
     ap (λ (x : Cell). x.entry) (c.index.ensures ∙ get_or_default c.self.inside.cells.items c.args.cell c.index.result.now no_cell fits) in
     let in' = entry-fits c.self.inside.ends.items c.self.inside.nodes.items c.self.inside.cells.items c.self.invariant c.args.cell c.index.result.now.entry fits entry in
-    let prev = ap (λ (n : Node). n.prev) (c.index-2.ensures ∙ get_or_default c.self.inside.ends.items c.index.result.now.entry c.index-2.result.now no_node in') in
+    let prev = ap (λ (n : RingNode). n.prev) (c.index-2.ensures ∙ get_or_default c.self.inside.ends.items c.index.result.now.entry c.index-2.result.now no_node in') in
     let end = c.index_mut-2.ensures.value ∙ get_or_default c.self.inside.ends.items c.index.result.now.entry c.index_mut-2.result.now no_node in' in
     let outside = ap (λ n. has_node (chain_at (chains_of c.self.inside.ends.items c.self.inside.nodes.items) n) c.args.cell) entry
     ∙ ap (λ (v : Chained). has_node (chain_with v c.args.cell) c.args.cell) c.self.view_is ∙ c.requires.new in

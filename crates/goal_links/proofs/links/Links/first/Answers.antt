@@ -1,7 +1,7 @@
 use Rattle.std.proofs.Common.{ℕ, Option, IfSome, IsTrue, sym, subst}
 use Rattle.choice_problem.specs.ConflictSet.{has}
 use Rattle.goal_links.specs.Links.{var_at}
-use Rattle.goal_links.proofs.Entries.{found-linked}
+use Rattle.goal_links.proofs.EntryLemmas.{found-linked}
 use Rattle.goal_links.proofs.links.Links.first.Goals as goal
 
 pub returns-clause-linked : goal.returns-clause-linked

@@ -1,5 +1,5 @@
 use Rattle.std.proofs.Common.{◌∙◌}
-use Rattle.goal_links.proofs.Entries.{linked-number, placed}
+use Rattle.goal_links.proofs.EntryLemmas.{linked-number, placed}
 use Rattle.goal_links.proofs.links.Links.link.Goals as goal
 
 pub link-requires-clause-new : goal.link-requires-clause-new

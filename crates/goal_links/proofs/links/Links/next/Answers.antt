@@ -5,8 +5,8 @@ use Rattle.choice_problem.specs.ConflictSet.{has}
 use Rattle.goal_links.specs.Beside.{first_of, behind_first}
 use Rattle.goal_links.specs.Row.{behind}
 use Rattle.goal_links.specs.Links.{Entries, var_at}
-use Rattle.goal_links.proofs.Mapped.{first-mapped}
-use Rattle.goal_links.proofs.Entries.{entry-fits, linked-number, behind-number, found-linked}
+use Rattle.goal_links.proofs.NamedItems.{first-mapped}
+use Rattle.goal_links.proofs.EntryLemmas.{entry-fits, linked-number, behind-number, found-linked}
 use Rattle.goal_links.proofs.links.Links.next.Goals as goal
 
 pub next-requires : goal.next-requires

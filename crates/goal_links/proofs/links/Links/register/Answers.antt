@@ -2,15 +2,15 @@ use Rattle.std.proofs.Common.{◌≡◌, ◌∷◌, [], ◌++◌, List, ap, ◌�
 use Rattle.std.specs.List.{slice_get}
 use Rattle.std.proofs.lemmas.Bool.{false≢true}
 use Rattle.qualified_goals.specs.declared.variable.Var.{Var}
-use Rattle.choice_problem.proofs.Sets.{contains-has}
+use Rattle.choice_problem.proofs.VariableSets.{contains-has}
 use Rattle.choice_problem.specs.ConflictSet.{has}
 use Rattle.goal_links.specs.Row.{Line, with_node}
 use Rattle.goal_links.specs.Chains.{Chained, with_chain}
 use Rattle.goal_links.specs.Links.{Entries, AreLinks, entries_of, registered}
-use Rattle.goal_links.proofs.Mapped.{get-contains, get-last}
-use Rattle.goal_links.proofs.Entries.{links-registered, view-registered, registered-again, registered-linked, unknown-unlinked}
+use Rattle.goal_links.proofs.NamedItems.{get-contains, get-last}
+use Rattle.goal_links.proofs.EntryLemmas.{links-registered, view-registered, registered-again, registered-linked, unknown-unlinked}
 use Rattle.goal_links.proofs.links.Links.register.Goals as goal
-use Rattle.choice_problem.proofs.Results.{ok-where}
+use Rattle.choice_problem.proofs.InfallibleCalls.{ok-where}
 
 pub returns-in-Some-clause-ok : goal.returns-in-Some-clause-ok
 returns-in-Some-clause-ok c =

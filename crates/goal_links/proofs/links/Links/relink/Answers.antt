@@ -1,7 +1,7 @@
 use Rattle.std.proofs.Common.{refl, ap, ◌∙◌, sym, subst}
 use Rattle.goal_links.specs.Beside.{last_of, first_of}
 use Rattle.goal_links.specs.Links.{Entries, MayReturn, linked}
-use Rattle.goal_links.proofs.Entries.{put-back, gap-of, returned}
+use Rattle.goal_links.proofs.EntryLemmas.{put-back, gap-of, returned}
 use Rattle.goal_links.proofs.links.Links.relink.Goals as goal
 
 pub relink-requires : goal.relink-requires

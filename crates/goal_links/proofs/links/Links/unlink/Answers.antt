@@ -5,7 +5,7 @@ use Rattle.std.proofs.lemmas.Option.{slice_get-map}
 use Rattle.choice_problem.specs.ConflictSet.{is_rising}
 use Rattle.goal_links.specs.Row.{Line}
 use Rattle.goal_links.specs.Links.{Entries, AreLinks, entries_of, sides_in, unlinked}
-use Rattle.goal_links.proofs.Entries.{entry-fits, linked-number, links-unlinked, view-unlinked}
+use Rattle.goal_links.proofs.EntryLemmas.{entry-fits, linked-number, links-unlinked, view-unlinked}
 use Rattle.goal_links.proofs.links.Links.unlink.Goals as goal
 
 pub recent_without-self-inside-requires-clause-linked : goal.recent_without-self-inside-requires-clause-linked

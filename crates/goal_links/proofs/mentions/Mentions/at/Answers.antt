@@ -1,6 +1,6 @@
 use Rattle.std.proofs.Common.{length, ap, arith}
 use Rattle.goal_links.specs.Mentions.{Mentioned}
-use Rattle.goal_links.proofs.Walks.{said-count}
+use Rattle.goal_links.proofs.ChainWalks.{said-count}
 use Rattle.goal_links.proofs.mentions.Mentions.at.Goals as goal
 
 pub owner_of-entry-requires : goal.owner_of-entry-requires

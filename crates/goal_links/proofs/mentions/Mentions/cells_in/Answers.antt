@@ -3,7 +3,7 @@ use Rattle.goal_links.specs.Row.{has_node}
 use Rattle.goal_links.specs.Chains.{cell_at, chain_at}
 use Rattle.goal_links.specs.Links.{chain_with}
 use Rattle.goal_links.specs.Mentions.{Mentioned}
-use Rattle.goal_links.proofs.Walks.{said-once, walk_from, walk-first, walk-on}
+use Rattle.goal_links.proofs.ChainWalks.{said-once, walk_from, walk-first, walk-on}
 use Rattle.goal_links.proofs.mentions.Mentions.cells_in.Goals as goal
 
 pub loop-at-init : goal.loop-at-init

@@ -1,6 +1,6 @@
 use Rattle.std.proofs.Common.{◌≡◌, ◌++◌, length}
 use Rattle.goal_links.specs.Chains.{chain_at}
-use Rattle.goal_links.proofs.Walks.{IsOnChain, walk_from}
+use Rattle.goal_links.proofs.ChainWalks.{IsOnChain, walk_from}
 use Rattle.goal_links.proofs.mentions.Mentions.cells_in.Given as goal
 
 abbrev pub invariant-loop-at : goal.invariant-loop-at

@@ -1,7 +1,7 @@
 use Rattle.std.proofs.Common.{◌<◌, ◌+◌, ◌++◌, ◌∙◌, length, sym, ap, arith}
 use Rattle.std.specs.List.{slice_get}
 use Rattle.goal_links.specs.Mentions.{Mentioned}
-use Rattle.goal_links.proofs.Walks.{mention-entry, said-count, spare-count}
+use Rattle.goal_links.proofs.ChainWalks.{mention-entry, said-count, spare-count}
 use Rattle.goal_links.proofs.mentions.Mentions.entry_at.Goals as goal
 
 pub owner_of-requires : goal.owner_of-requires

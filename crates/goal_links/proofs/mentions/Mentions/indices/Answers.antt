@@ -2,7 +2,7 @@ use Rattle.std.proofs.Common.{◌<◌, ◌∙◌, length, take, sym, ap, subst}
 use Rattle.std.proofs.lemmas.Option.{slice_get_within}
 use Rattle.goal_links.specs.Chains.{chain_at}
 use Rattle.goal_links.specs.Mentions.{Mentioned, indices_on, used}
-use Rattle.goal_links.proofs.Walks.{chain-indices, unknown-indices}
+use Rattle.goal_links.proofs.ChainWalks.{chain-indices, unknown-indices}
 use Rattle.goal_links.proofs.mentions.Mentions.indices.Goals as goal
 
 pub cells_in-requires : goal.cells_in-requires

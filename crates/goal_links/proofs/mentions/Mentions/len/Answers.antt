@@ -1,6 +1,6 @@
 use Rattle.std.proofs.Common.{◌∙◌, length, ap}
 use Rattle.goal_links.specs.Mentions.{Mentioned}
-use Rattle.goal_links.proofs.Walks.{said-count}
+use Rattle.goal_links.proofs.ChainWalks.{said-count}
 use Rattle.goal_links.proofs.mentions.Mentions.len.Goals as goal
 
 pub returns : goal.returns

@@ -3,7 +3,7 @@ use Rattle.std.proofs.lemmas.Option.{slice_get_within}
 use Rattle.choice_problem.specs.ConflictSet.{has}
 use Rattle.goal_links.specs.Links.{var_at}
 use Rattle.goal_links.specs.Mentions.{Mentioned, vars_at}
-use Rattle.goal_links.proofs.Walks.{at-entry, unknown-has}
+use Rattle.goal_links.proofs.ChainWalks.{at-entry, unknown-has}
 use Rattle.goal_links.proofs.mentions.Mentions.names.Goals as goal
 
 pub names_entry-requires : goal.names_entry-requires

@@ -2,7 +2,7 @@ use Rattle.std.proofs.Common.{◌<◌, ◌∙◌, length, is_some, sym, ap, subs
 use Rattle.choice_problem.specs.ConflictSet.{has}
 use Rattle.goal_links.specs.Links.{var_at}
 use Rattle.goal_links.specs.Mentions.{Mentioned, used, vars_at}
-use Rattle.goal_links.proofs.Walks.{chain-has, get-at}
+use Rattle.goal_links.proofs.ChainWalks.{chain-has, get-at}
 use Rattle.goal_links.proofs.mentions.Mentions.names_entry.Goals as goal
 
 pub chain_first-requires : goal.chain_first-requires

@@ -2,7 +2,7 @@ use Rattle.std.proofs.Common.{◌<◌, ◌∙◌, length, map, take, sym, ap, su
 use Rattle.std.proofs.lemmas.Option.{slice_get_within}
 use Rattle.goal_links.specs.Chains.{chain_at}
 use Rattle.goal_links.specs.Mentions.{Mentioned, place_at, places_on, used}
-use Rattle.goal_links.proofs.Walks.{chain-places, said-places, unknown-places}
+use Rattle.goal_links.proofs.ChainWalks.{chain-places, said-places, unknown-places}
 use Rattle.goal_links.proofs.mentions.Mentions.places.Goals as goal
 
 pub places_in-requires : goal.places_in-requires

@@ -1,7 +1,7 @@
 use Rattle.std.proofs.Common.{◌≡◌, ◌++◌, length, map}
 use Rattle.goal_links.specs.Chains.{chain_at}
 use Rattle.goal_links.specs.Mentions.{place_at}
-use Rattle.goal_links.proofs.Walks.{IsOnChain, walk_from}
+use Rattle.goal_links.proofs.ChainWalks.{IsOnChain, walk_from}
 use Rattle.goal_links.proofs.mentions.Mentions.places_in.Given as goal
 
 abbrev pub invariant-loop-at : goal.invariant-loop-at

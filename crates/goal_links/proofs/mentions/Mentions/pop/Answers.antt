@@ -1,7 +1,7 @@
 use Rattle.std.proofs.Common.{◌+◌, ◌-◌, refl, subst, arith}
 use Rattle.goal_links.specs.Links.{shortened}
 use Rattle.goal_links.specs.Mentions.{AreSaid}
-use Rattle.goal_links.proofs.Walks.{pop-last, taken-off}
+use Rattle.goal_links.proofs.ChainWalks.{pop-last, taken-off}
 use Rattle.goal_links.proofs.mentions.Mentions.pop.Goals as goal
 
 pub chain_pop-requires-clause-last : goal.chain_pop-requires-clause-last

@@ -1,12 +1,13 @@
 use Rattle.std.proofs.Common.{◌≡◌, ℕ, ◌+◌, ◌<◌, ◌++◌, ◌∷◌, [], ◌∙◌, List, length, map, take, drop, Some, slice_set, sym, ap, subst, arith}
 use Rattle.std.specs.List.{slice_get}
 use Rattle.std.proofs.lemmas.Option.{slice_get_within}
+use Rattle.common_laws.specs.Small.{on-err}
 use Rattle.qualified_goals.specs.declared.variable.Var.{Var}
 use Rattle.goal_links.specs.declared.chains.Cell.{Cell}
 use Rattle.goal_links.specs.declared.mentions.Mention.{Mention}
 use Rattle.goal_links.specs.Links.{Entries, var_at, registered}
 use Rattle.goal_links.specs.Mentions.{Mentioned, AreSaid, KeepRow, mention_in, mentioned, mentions, used}
-use Rattle.goal_links.proofs.Walks.{at-entry, registered-said, registered-front, registered-spare, registered-row, spare-count, spare-outside, set-said, set-mentioned, set-ready, added-said, added-mentioned, added-ready}
+use Rattle.goal_links.proofs.ChainWalks.{at-entry, registered-said, registered-front, registered-spare, registered-row, spare-count, spare-outside, set-said, set-mentioned, set-ready, added-said, added-mentioned, added-ready}
 use Rattle.goal_links.proofs.mentions.Mentions.prepare.Goals as goal
 
 -- what is registered first
@@ -89,6 +90,13 @@ invariant_of-self-in_err-register_cell c =
 pub returns-in_err-register_cell-clause-said : goal.returns-in_err-register_cell-clause-said
 returns-in_err-register_cell-clause-said c =
     ap (λ (x : Entries). mentions (used c.self.inside.count x)) c.in_err-register_cell.ensures.err ∙ front-first c.self.inside.links c.register.new.self c.self.inside.count c.args.mention.var c.args.self.now c.self.invariant c.self.view_is c.in_ok-entry.ensures.ok
+
+-- an entry more changes nothing of what is ready
+pub returns-in_err-register_cell-clause-err : goal.returns-in_err-register_cell-clause-err
+returns-in_err-register_cell-clause-err c =
+    on-err c.from_residual-in_err-register_cell.result (map (mention_in c.register_cell.new.self.vars) (drop c.self.inside.count c.register_cell.new.self.cells) ≡ c.args.self.now.spare)
+    (ap (λ (x : Entries). map (mention_in x.vars) (drop c.self.inside.count x.cells)) c.in_err-register_cell.ensures.err
+    ∙ spare-first c.self.inside.links c.register.new.self c.self.inside.count c.args.mention.var c.args.self.now c.self.invariant c.self.view_is c.in_ok-entry.ensures.ok)
 
 pub returns-in_err-register_cell-clause-row : goal.returns-in_err-register_cell-clause-row
 returns-in_err-register_cell-clause-row c = subst (λ (x : Entries). KeepRow c.args.self.now.row x) (sym c.in_err-register_cell.ensures.err) (row-first c.self.inside.links c.register.new.self c.self.inside.count c.args.mention.var c.args.self.now c.self.invariant c.self.view_is c.in_ok-entry.ensures.ok)

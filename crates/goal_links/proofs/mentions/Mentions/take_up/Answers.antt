@@ -1,6 +1,6 @@
 use Rattle.std.proofs.Common.{◌<◌, ◌++◌, ◌∙◌, length, take, drop, ap, arith}
 use Rattle.goal_links.specs.Mentions.{Mentioned}
-use Rattle.goal_links.proofs.Walks.{said-more, spare-count, spare-less, spare-outside, taken-up}
+use Rattle.goal_links.proofs.ChainWalks.{said-more, spare-count, spare-less, spare-outside, taken-up}
 use Rattle.goal_links.proofs.mentions.Mentions.take_up.Goals as goal
 
 pub chain_push-requires-clause-new : goal.chain_push-requires-clause-new

@@ -1,7 +1,7 @@
 use Rattle.std.proofs.Common.{List, ◌∷◌, ◌++◌, [], ap, ◌∙◌}
 use Rattle.qualified_goals.specs.declared.variable.Var.{Var}
 use Rattle.choice_problem.specs.ConflictSet.{has}
-use Rattle.goal_links.proofs.Keys.{added}
+use Rattle.goal_links.proofs.VariableKeys.{added}
 use Rattle.goal_links.proofs.vars.Vars.add.Goals as goal
 
 pub returns-clause-ok : goal.returns-clause-ok

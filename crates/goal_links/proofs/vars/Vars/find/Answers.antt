@@ -2,7 +2,7 @@ use Rattle.std.proofs.Common.{◌≡◌, List, MatchOption, false, subst, Some}
 use Rattle.std.specs.List.{slice_get}
 use Rattle.qualified_goals.specs.declared.variable.Var.{Var}
 use Rattle.choice_problem.specs.ConflictSet.{has}
-use Rattle.goal_links.proofs.Keys.{found}
+use Rattle.goal_links.proofs.VariableKeys.{found}
 use Rattle.goal_links.proofs.vars.Vars.find.Goals as goal
 
 pub returns : goal.returns

@@ -5,7 +5,7 @@ use Rattle.choice_problem.specs.declared.problem.Demand.{Demand}
 use Rattle.choice_problem.specs.Conflict.{edges_of}
 use Rattle.demand_cycles.specs.Cycles.{HasEdge}
 use Rattle.validation.specs.View.{View}
-use Rattle.choice_stack.proofs.Graphs.{sources-are}
+use Rattle.choice_stack.proofs.DemandGraphs.{sources-are}
 use Rattle.validation.proofs.Weighed.{edge-either, edge-left, edge-right, found-joined, pending-active}
 use Rattle.validation.proofs.pending.PendingGraph.sources.Goals as goal
 

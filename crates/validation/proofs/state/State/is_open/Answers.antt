@@ -3,7 +3,7 @@ use Rattle.std.proofs.Common.{◌∙◌, List, sym, ap}
 use Rattle.choice_problem.specs.declared.problem.Demand.{Demand}
 use Rattle.choice_problem.specs.Active.{waiting}
 use Rattle.choice_problem.specs.ConflictSet.{has}
-use Rattle.choice_problem.proofs.Active.{open-waiting}
+use Rattle.choice_problem.proofs.ActiveDemands.{open-waiting}
 use Rattle.validation.specs.View.{View}
 use Rattle.validation.proofs.state.State.is_open.Goals as goal
 
