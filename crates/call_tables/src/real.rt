@@ -57,6 +57,19 @@ fn others<F: Folder>(alloc: Global, folder: &mut F) -> Result<String, Fail> {
     Ok(others)
 }
 
+// A call on a path that is longer than any that the system takes, though each of its names is short enough.
+fn call_on_long_path(alloc: Global) -> Result<String, Fail> {
+    let mut call = String::new(alloc);
+    write!(&mut call, "read .")?;
+    for _ in 0..100 {
+        write!(
+            &mut call,
+            "/nnnnnnnnnnnnnnnnnnnnnnnnnnnnnnnnnnnnnnnnnnnnnnnnnn"
+        )?;
+    }
+    Ok(call)
+}
+
 fn is_printed(rt: &HostRuntime, text: &str) -> bool {
     let mut sink = RealSink::new(rt);
     write_all(&mut sink, text.as_bytes()).is_ok()
@@ -68,8 +81,13 @@ fn a_folder_and_standard_output(rt: HostRuntime) -> Result<(), Fail> {
     let root = made(&rt)?;
     let mut folder = RealFolder::new(&rt, root.copy()?);
     let found = others(alloc, &mut folder)?;
+    let long = call_on_long_path(alloc)?;
     fs::remove_dir_all(&rt, root.as_str())?;
     assert_eq!(rt; found.as_str(), "");
+    assert_eq!(rt;
+        answered(alloc, &mut folder, long.as_str())?.as_str(),
+        "Failed"
+    );
     assert_eq!(rt; answered(alloc, &mut folder, "list ./")?.as_str(), "Failed");
     assert!(rt; is_printed(&rt, ""));
     assert!(rt; is_printed(&rt, "a line of the test\n"));
