@@ -3,15 +3,15 @@ use Rattle.std.proofs.Common.{◌≡◌, ℕ, ◌+◌, ◌-◌, ◌*◌, ◌<◌
 use Rattle.choice_problem.specs.Trail.{choice_of}
 use Rattle.choice_problem.specs.Answer.{Answer, one_visited, of_value}
 use Rattle.choice_problem.proofs.SearchLimits.{of_value-tries, answer-tries}
-use Rattle.choice_tree.specs.declared.tree.Node.{Node}
+use Rattle.choice_tree.specs.declared.tree.TreeNode.{TreeNode}
 use Rattle.choice_tree.specs.Tree.{stepped, values_left, GivesNext}
 use Rattle.backjump.specs.declared.walk.Walk.{Walk}
 use Rattle.backjump.specs.declared.walk.Turn.{Turn}
 use Rattle.backjump.specs.declared.walk.Turn.TheVariants.{Look, Try, Back}
 use Rattle.backjump.specs.declared.walk.End.{End}
 use Rattle.backjump.specs.declared.walk.End.TheVariants.{Whole, NoPlan, Stopped}
-use Rattle.backjump.specs.declared.walk.Step.{Step}
-use Rattle.backjump.specs.declared.walk.Step.TheVariants.{On}
+use Rattle.backjump.specs.declared.walk.WalkStep.{WalkStep}
+use Rattle.backjump.specs.declared.walk.WalkStep.TheVariants.{On}
 use Rattle.backjump.specs.Walk.{Point, Search, manner, whole, below, of_point, of_point_after, resume, nodes_of, Recalls, past_at, failed_with, AtValue, IsAt, IsEnd, IsNext, load, GoesOn, Moves, StopsAt}
 use Rattle.backjump.proofs.Rises.{point-rises, after-rises, resume-rises}
 use Rattle.backjump.proofs.Moves.{lighter-more}
@@ -43,7 +43,7 @@ module _ {G : Type 0} (recalls : Recalls G) (s : Search) where
   pub stops-still : (w : Walk G) (visited : ℕ) (turn : Turn) (steps : ℕ) → IsAt recalls s w visited turn → StopsAt s visited steps steps
   stops-still w visited turn steps at = record { tried = 0; steps = omega arith; most = omega (arith, at-within w visited turn at) }
 
-  pub goes-still : (old new : Walk G) (turn : Turn) (visited most steps : ℕ) (step : Step) → most ≤ load old turn → Moves recalls s new visited most step
+  pub goes-still : (old new : Walk G) (turn : Turn) (visited most steps : ℕ) (step : WalkStep) → most ≤ load old turn → Moves recalls s new visited most step
       → GoesOn recalls s old new turn visited steps steps step
   goes-still old new turn visited most steps step h moves =
       let same : visited ≡ visited + 0 = omega arith in
@@ -54,7 +54,7 @@ module _ {G : Type 0} (recalls : Recalls G) (s : Search) where
         lighter = lighter-more most (4 * 0 + load old turn) new step moves.lighter (omega (arith, h));
       }
 
-  pub goes-tried : (old new : Walk G) (visited most before now : ℕ) (step : Step) → most ≤ 4 + load old Try → now ≡ before + 1 → Moves recalls s new (visited + 1) most step
+  pub goes-tried : (old new : Walk G) (visited most before now : ℕ) (step : WalkStep) → most ≤ 4 + load old Try → now ≡ before + 1 → Moves recalls s new (visited + 1) most step
       → GoesOn recalls s old new Try visited before now step
   goes-tried old new visited most before now step h k moves = record {
     tried = 1;
@@ -64,7 +64,7 @@ module _ {G : Type 0} (recalls : Recalls G) (s : Search) where
   }
 
   -- a node that steps on leaves the number of nodes
-  pub same-length : (w : Walk G) (visited n : ℕ) (tree : List Node) → ((outer : List Node) (node : Node) → w.tree ≡ outer ++ node ∷ [] → GivesNext outer node tree n)
+  pub same-length : (w : Walk G) (visited n : ℕ) (tree : List TreeNode) → ((outer : List TreeNode) (node : TreeNode) → w.tree ≡ outer ++ node ∷ [] → GivesNext outer node tree n)
       → IsAt recalls s w visited Try → length tree ≡ length w.tree
   same-length w visited n tree t at =
       let node = at.point.node in
@@ -72,7 +72,7 @@ module _ {G : Type 0} (recalls : Recalls G) (s : Search) where
       let gives = t outer node at.held.nodes in
       omega (arith, ap length gives.nodes, ap length at.held.nodes, length-append outer (node ∷ []), length-append outer (stepped node ∷ []))
 
-  pub same-length-none : (w : Walk G) (visited : ℕ) (tree : List Node) → ((outer : List Node) (node : Node) → w.tree ≡ outer ++ node ∷ [] → (values_left node ≡ []) × (tree ≡ w.tree))
+  pub same-length-none : (w : Walk G) (visited : ℕ) (tree : List TreeNode) → ((outer : List TreeNode) (node : TreeNode) → w.tree ≡ outer ++ node ∷ [] → (values_left node ≡ []) × (tree ≡ w.tree))
       → IsAt recalls s w visited Try → length tree ≡ length w.tree
   same-length-none w visited tree t at = ap length (t (nodes_of at.outer) at.point.node at.held.nodes).1
 

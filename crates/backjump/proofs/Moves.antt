@@ -14,15 +14,15 @@ use Rattle.choice_problem.specs.Conflict.{conflict}
 use Rattle.choice_problem.specs.ConflictSet.{has, set_of, union}
 use Rattle.choice_problem.specs.Answer.{GaveUp, Past, Answer, counts_of, one_visited, one_exhausted, fails, is_reached, gives_up, of_values, nothing_yet, guided_answer}
 use Rattle.validation.specs.View.{View, Represents}
-use Rattle.choice_tree.specs.declared.tree.Node.{Node}
+use Rattle.choice_tree.specs.declared.tree.TreeNode.{TreeNode}
 use Rattle.choice_tree.specs.Tree.{fresh, stepped, values_left, choice_at, GivesNext}
 use Rattle.choice_problem.proofs.TrailLemmas.{open-unchosen}
 use Rattle.choice_problem.proofs.TrailEnds.{snoc-none, snoc-same}
 use Rattle.backjump.specs.declared.walk.Walk.{Walk}
 use Rattle.backjump.specs.declared.walk.Turn.TheVariants.{Look, Try, Back}
 use Rattle.backjump.specs.declared.walk.End.TheVariants.{Whole, NoPlan, Stopped}
-use Rattle.backjump.specs.declared.walk.Step.{Step}
-use Rattle.backjump.specs.declared.walk.Step.TheVariants.{On, Done}
+use Rattle.backjump.specs.declared.walk.WalkStep.{WalkStep}
+use Rattle.backjump.specs.declared.walk.WalkStep.TheVariants.{On, Done}
 use Rattle.backjump.specs.Walk.{Point, Search, manner, whole, below, of_point_after, resume, nodes_of, sets_of, IsChain, Recalls, past_at, IsHeld, failed_with, AtLook, AtTry, AtBack, AtCut, AtExhausted, AtValue, load, IsLighter, Moves}
 use Rattle.backjump.proofs.Rises.{resume-found, resume-stopped, resume-none, resume-point, after-lacking, after-having, value-kept, value-failed, below-none, below-some}
 use Rattle.validation.proofs.NextViews.{known-open}
@@ -35,10 +35,10 @@ popped old new outer x None h e = absurd (snoc-none outer x [] (sym h.0 ∙ e))
 popped old new outer x (Some last) h e = (snoc-same new last outer x (sym h ∙ e)).0
 
 -- walks that differ from one in some parts
-abbrev pub with_tree : {G : Type 0} → Walk G → List Node → Walk G
+abbrev pub with_tree : {G : Type 0} → Walk G → List TreeNode → Walk G
 with_tree w tree = record { tree = tree; failed = w.failed; state = w.state; counts = w.counts; guide = w.guide }
 
-abbrev pub with_node : {G : Type 0} → Walk G → List Node → List (List Var) → Walk G
+abbrev pub with_node : {G : Type 0} → Walk G → List TreeNode → List (List Var) → Walk G
 with_node w tree failed = record { tree = tree; failed = failed; state = w.state; counts = w.counts; guide = w.guide }
 
 abbrev pub with_state : {G : Type 0} → Walk G → View → ℕ → G → Walk G
@@ -47,18 +47,18 @@ with_state w state visited guide = record { tree = w.tree; failed = w.failed; st
 abbrev pub with_exhausted : {G : Type 0} → Walk G → ℕ → G → Walk G
 with_exhausted w exhausted guide = record { tree = w.tree; failed = w.failed; state = w.state; counts = counts_of w.counts.visited exhausted; guide = guide }
 
-abbrev pub with_less : {G : Type 0} → Walk G → List Node → List (List Var) → View → G → Walk G
+abbrev pub with_less : {G : Type 0} → Walk G → List TreeNode → List (List Var) → View → G → Walk G
 with_less w tree failed state guide = record { tree = tree; failed = failed; state = state; counts = w.counts; guide = guide }
 
-pub lighter-more : {G : Type 0} (most more : ℕ) (w : Walk G) (step : Step) → IsLighter most w step → most ≤ more → IsLighter more w step
+pub lighter-more : {G : Type 0} (most more : ℕ) (w : Walk G) (step : WalkStep) → IsLighter most w step → most ≤ more → IsLighter more w step
 lighter-more most more w (On turn) h k = omega (arith, h, k)
 lighter-more most more w (Done end) h k = tt
 
 -- the last of a chain's nodes has given a value
 pub chain-given : (p : Problem) (points : List Point) (prefix : List Choice) (fuel : ℕ) → IsChain p points prefix fuel
-    → (outer : List Node) (node : Node) → nodes_of points ≡ outer ++ node ∷ [] → 0 < node.given
+    → (outer : List TreeNode) (node : TreeNode) → nodes_of points ≡ outer ++ node ∷ [] → 0 < node.given
 chain-given p [] prefix fuel h outer node e = absurd (snoc-none outer node [] e)
-chain-given p (point ∷ rest) prefix fuel h outer node e = subst (λ (n : Node). 0 < n.given) (snoc-same (nodes_of rest) point.node outer node e).1 h.0.given
+chain-given p (point ∷ rest) prefix fuel h outer node e = subst (λ (n : TreeNode). 0 < n.given) (snoc-same (nodes_of rest) point.node outer node e).1 h.0.given
 
 -- a chain with points ends a prefix with choices
 pub chain-some : (p : Problem) (outer : List Point) (prefix : List Choice) (fuel : ℕ) → IsChain p outer prefix fuel → (length (nodes_of outer) ≡ 0 → ⊥) → prefix ≡ [] → ⊥
@@ -91,7 +91,7 @@ module _ {G : Type 0} (recalls : Recalls G) (s : Search) where
       let answer = at.answer ∙ ap (resume s at.points) (below-none s at.fuel w.state.trail past e) ∙ resume-found s at.points w.state.trail past in
       record { next = record { visited_is = at.held.visited_is; ended_is = ap (λ a. a.ended) answer; counts_are = ap (λ a. a.past.counts) answer }; lighter = tt }
 
-  pub look-some : (lawful : Lawful s.problem) (is : IsGuide s.guide) (w : Walk G) (visited : ℕ) (v : Var) (values : List ℕ) (tree : List Node) (failed : List (List Var))
+  pub look-some : (lawful : Lawful s.problem) (is : IsGuide s.guide) (w : Walk G) (visited : ℕ) (v : Var) (values : List ℕ) (tree : List TreeNode) (failed : List (List Var))
       (at : AtLook recalls s w visited) → s.guide at.met (open_in s.problem w.state.trail) ≡ Some v → values ≡ s.problem.order v w.state.trail
       → tree ≡ w.tree ++ fresh v values ∷ [] → failed ≡ w.failed ++ [] ∷ [] → Moves recalls s (with_node w tree failed) visited (load w Look) (On Try)
   look-some lawful is w visited v values tree failed at e o t f =
@@ -206,19 +206,19 @@ module _ {G : Type 0} (recalls : Recalls G) (s : Search) where
   cut-end set past [] answer h = answer ∙ resume-none s (failed_with set past)
   cut-end set past (point ∷ outer) answer h = absurd (omega (arith, h, nodes-length point outer))
 
-  pub cut-done : (w : Walk G) (visited : ℕ) (set : List Var) (tree : List Node) (failed : List (List Var))
-      → ((outer : List Node) (node : Node) → w.tree ≡ outer ++ node ∷ [] → tree ≡ outer) → length tree ≡ 0
+  pub cut-done : (w : Walk G) (visited : ℕ) (set : List Var) (tree : List TreeNode) (failed : List (List Var))
+      → ((outer : List TreeNode) (node : TreeNode) → w.tree ≡ outer ++ node ∷ [] → tree ≡ outer) → length tree ≡ 0
       → AtCut recalls s w visited set → Moves recalls s (with_node w tree failed) visited (load w Try) (Done (NoPlan set))
   cut-done w visited set tree failed t h at =
       let answer = cut-end set (past_at w visited at.met) at.outer at.answer (sym (ap length (t (nodes_of at.outer) at.point.node at.held.nodes)) ∙ h) in
       record { next = record { visited_is = at.held.visited_is; ended_is = ap (λ a. a.ended) answer; counts_are = ap (λ a. a.past.counts) answer }; lighter = tt }
 
   -- what a guide recalls once the last choice, of a node's variable, was taken back
-  abbrev pub TakesBack : G → G → List Node → Type 0
-  TakesBack old new tree = (outer : List Node) (node : Node) → tree ≡ outer ++ node ∷ []
+  abbrev pub TakesBack : G → G → List TreeNode → Type 0
+  TakesBack old new tree = (outer : List TreeNode) (node : TreeNode) → tree ≡ outer ++ node ∷ []
       → (met : List (List Var)) (front : List Choice) (c : Choice) → c.var ≡ node.var → value_in front node.var ≡ None → recalls old met (front ++ c ∷ []) → recalls new met front
 
-  back-at : (w : Walk G) (visited : ℕ) (met : List (List Var)) (set : List Var) (tree : List Node) (failed : List (List Var)) (state : View) (guide : G) (prefix : List Choice) (fuel : ℕ) (outer : List Point)
+  back-at : (w : Walk G) (visited : ℕ) (met : List (List Var)) (set : List Var) (tree : List TreeNode) (failed : List (List Var)) (state : View) (guide : G) (prefix : List Choice) (fuel : ℕ) (outer : List Point)
       → tree ≡ nodes_of outer → failed ≡ sets_of outer → (length tree ≡ 0 → ⊥)
       → Represents s.problem state → ((front : List Choice) (c : Choice) → w.state.trail ≡ front ++ c ∷ [] → state.trail ≡ front)
       → TakesBack w.guide guide tree → recalls w.guide met w.state.trail
@@ -247,8 +247,8 @@ module _ {G : Type 0} (recalls : Recalls G) (s : Search) where
         answer = answer ∙ resume-point s point outer (failed_with set (past_at w visited met));
       }
 
-  pub cut-back : (w : Walk G) (visited : ℕ) (set : List Var) (tree : List Node) (failed : List (List Var)) (state : View) (guide : G) (popped_off : Option (List Var))
-      → ((outer : List Node) (node : Node) → w.tree ≡ outer ++ node ∷ [] → tree ≡ outer)
+  pub cut-back : (w : Walk G) (visited : ℕ) (set : List Var) (tree : List TreeNode) (failed : List (List Var)) (state : View) (guide : G) (popped_off : Option (List Var))
+      → ((outer : List TreeNode) (node : TreeNode) → w.tree ≡ outer ++ node ∷ [] → tree ≡ outer)
       → MatchOption popped_off ((w.failed ≡ []) × (failed ≡ [])) (λ last. w.failed ≡ failed ++ last ∷ [])
       → (length tree ≡ 0 → ⊥) → (Represents s.problem w.state → Represents s.problem state)
       → ((front : List Choice) (c : Choice) → w.state.trail ≡ front ++ c ∷ [] → state.trail ≡ front)
@@ -357,8 +357,8 @@ module _ {G : Type 0} (recalls : Recalls G) (s : Search) where
 
   -- the next value of the last node
 
-  pub try-none : (w : Walk G) (visited : ℕ) (tree : List Node)
-      → ((outer : List Node) (node : Node) → w.tree ≡ outer ++ node ∷ [] → (values_left node ≡ []) × (tree ≡ w.tree))
+  pub try-none : (w : Walk G) (visited : ℕ) (tree : List TreeNode)
+      → ((outer : List TreeNode) (node : TreeNode) → w.tree ≡ outer ++ node ∷ [] → (values_left node ≡ []) × (tree ≡ w.tree))
       → AtTry recalls s w visited → AtExhausted recalls s (with_tree w tree) visited
   try-none w visited tree t at =
       let none = t (nodes_of at.outer) at.point.node at.held.nodes in
@@ -375,8 +375,8 @@ module _ {G : Type 0} (recalls : Recalls G) (s : Search) where
             ∙ ap (λ l. resume s at.outer (of_values (below point.fuel s) (manner s) s.problem point.prefix point.node.var l point.failed (past_at w visited at.met))) none.0;
       }
 
-  pub try-some : (w : Walk G) (visited n : ℕ) (tree : List Node)
-      → ((outer : List Node) (node : Node) → w.tree ≡ outer ++ node ∷ [] → GivesNext outer node tree n)
+  pub try-some : (w : Walk G) (visited n : ℕ) (tree : List TreeNode)
+      → ((outer : List TreeNode) (node : TreeNode) → w.tree ≡ outer ++ node ∷ [] → GivesNext outer node tree n)
       → AtTry recalls s w visited → AtValue recalls s (with_tree w tree) visited n
   try-some w visited n tree t at =
       let p = s.problem in

@@ -10,21 +10,22 @@ use Rattle.choice_problem.specs.Guide.{Guide, cap}
 use Rattle.choice_problem.specs.ConflictSet.{union, set_of}
 use Rattle.choice_problem.specs.Answer.{Ended, Found, Failed, GaveUp, Past, Answer, Manner, counts_of, one_visited, exhausts, of_value, after_value, of_values, answer_from, guided_answer}
 use Rattle.validation.specs.View.{Represents}
-use Rattle.choice_tree.specs.declared.tree.Node.{Node}
+use Rattle.choice_tree.specs.declared.tree.TreeNode.{TreeNode}
 use Rattle.choice_tree.specs.Tree.{values_left, choice_at}
+pub use Rattle.backjump.specs.Guide.{Recalls}
 use Rattle.backjump.specs.declared.walk.Walk.{Walk}
 use Rattle.backjump.specs.declared.walk.Turn.{Turn}
 use Rattle.backjump.specs.declared.walk.Turn.TheVariants.{Look, Try, Back}
 use Rattle.backjump.specs.declared.walk.End.{End}
 use Rattle.backjump.specs.declared.walk.End.TheVariants.{Whole, NoPlan, Stopped}
-use Rattle.backjump.specs.declared.walk.Step.{Step}
-use Rattle.backjump.specs.declared.walk.Step.TheVariants.{On, Done}
+use Rattle.backjump.specs.declared.walk.WalkStep.{WalkStep}
+use Rattle.backjump.specs.declared.walk.WalkStep.TheVariants.{On, Done}
 
 -- a point of a search: the choices before it, its node, the sets of its failed values together, and how many choices
 -- may follow one of its own
 pub record Point : Type 0 where
   pub prefix : List Choice
-  pub node : Node
+  pub node : TreeNode
   pub failed : List Var
   pub fuel : ℕ
 
@@ -69,7 +70,7 @@ resume s [] answer = answer
 resume s (point ∷ outer) answer = resume s outer (of_point_after s point answer)
 
 -- the points' nodes and sets, innermost last
-abbrev pub nodes_of : List Point → List Node
+abbrev pub nodes_of : List Point → List TreeNode
 nodes_of [] = []
 nodes_of (point ∷ outer) = nodes_of outer ++ point.node ∷ []
 
@@ -98,10 +99,6 @@ IsChain p (point ∷ outer) prefix fuel = IsMade p point prefix fuel × IsChain 
 -- an answer that names a set
 abbrev pub failed_with : List Var → Past → Answer
 failed_with set past = record { ended = Failed set; past = past }
-
--- what a guide recalls: the sets that were met, the last one first, and the choices that stand
-abbrev pub Recalls : Type 0 → Type 1
-Recalls G = G → List (List Var) → List Choice → Type 0
 
 -- what a walk has behind it after so many tries and these sets
 abbrev pub past_at : {G : Type 0} → Walk G → ℕ → List (List Var) → Past
@@ -189,7 +186,7 @@ abbrev pub load : {G : Type 0} → Walk G → Turn → ℕ
 load w turn = 2 * length w.tree + weight turn
 
 -- a step leaves less to do than this
-abbrev pub IsLighter : {G : Type 0} → ℕ → Walk G → Step → Type 0
+abbrev pub IsLighter : {G : Type 0} → ℕ → Walk G → WalkStep → Type 0
 IsLighter most w (On turn) = load w turn < most
 IsLighter most w (Done end) = Unit {0}
 
@@ -205,45 +202,45 @@ AddsToLast set old new = (outer : List (List Var)) (before : List Var) → old �
 
 module _ {G : Type 0} (recalls : Recalls G) where
   -- where a step leads
-  abbrev pub IsNext : Search → Walk G → ℕ → Step → Type 0
+  abbrev pub IsNext : Search → Walk G → ℕ → WalkStep → Type 0
   IsNext s w visited (On turn) = IsAt recalls s w visited turn
   IsNext s w visited (Done end) = IsEnd s w visited end
 
   -- a step from a turn on, with so many tries
-  pub record GoesOn (s : Search) (old new : Walk G) (turn : Turn) (visited before now : ℕ) (step : Step) : Type 0 where
+  pub record GoesOn (s : Search) (old new : Walk G) (turn : Turn) (visited before now : ℕ) (step : WalkStep) : Type 0 where
     pub tried : ℕ
     pub steps : now ≡ before + tried
     pub next : IsNext s new (visited + tried) step
     pub lighter : IsLighter (4 * tried + load old turn) new step
 
   -- a step from a turn on, whatever was tried before
-  abbrev pub Goes : Search → Walk G → Walk G → Turn → ℕ → ℕ → Step → Type 0
+  abbrev pub Goes : Search → Walk G → Walk G → Turn → ℕ → ℕ → WalkStep → Type 0
   Goes s old new turn before now step = (visited : ℕ) → IsAt recalls s old visited turn → GoesOn s old new turn visited before now step
 
   -- a step without tries
-  pub record Moves (s : Search) (new : Walk G) (visited most : ℕ) (step : Step) : Type 0 where
+  pub record Moves (s : Search) (new : Walk G) (visited most : ℕ) (step : WalkStep) : Type 0 where
     pub next : IsNext s new visited step
     pub lighter : IsLighter most new step
 
   -- the next variable is looked for
-  abbrev pub Looks : Search → Walk G → Walk G → Step → Type 0
+  abbrev pub Looks : Search → Walk G → Walk G → WalkStep → Type 0
   Looks s old new step = (visited : ℕ) → AtLook recalls s old visited → Moves s new visited (load old Look) step
 
   -- a value that the last node gave is tried
-  abbrev pub Tries : Search → ℕ → Walk G → Walk G → Step → Type 0
+  abbrev pub Tries : Search → ℕ → Walk G → Walk G → WalkStep → Type 0
   Tries s value old new step = (visited : ℕ) → AtValue recalls s old visited value → Moves s new (visited + 1) (4 + load old Try) step
 
   -- the last node, which has failed with this set, is left
-  abbrev pub Cuts : List Var → Walk G → Walk G → Step → Type 0
+  abbrev pub Cuts : List Var → Walk G → Walk G → WalkStep → Type 0
   Cuts set old new step = (s : Search) (visited : ℕ) → AtCut recalls s old visited set → Moves s new visited (load old Try) step
 
   -- all values of the last node have failed
-  abbrev pub Exhausts : Guide → Limit → Walk G → Walk G → Step → Type 0
+  abbrev pub Exhausts : Guide → Limit → Walk G → Walk G → WalkStep → Type 0
   Exhausts guide limit old new step = (p : Problem) (visited : ℕ) → AtExhausted recalls (search_of p guide limit) old visited
       → Moves (search_of p guide limit) new visited (load old Try) step
 
   -- the value that the last node gave has failed with this set
-  abbrev pub Falls : List Var → Walk G → Walk G → Step → Type 0
+  abbrev pub Falls : List Var → Walk G → Walk G → WalkStep → Type 0
   Falls set old new step = (s : Search) (visited : ℕ) → AtBack recalls s old visited set → Moves s new visited (load old Try + 1) step
 
   -- the set of the innermost point, of which all values have failed: those of its values, its variable and its reason

@@ -2,7 +2,7 @@
 ghost use Rattle.std.specs.Prelude.{◌≡◌, ◌+◌, ◌≤◌, [], IfOk, OnOk, OnErr};
 ghost use Rattle.choice_problem.specs.Answer.{answer_of, guided_answer, outcome_of};
 
-use crate::walk::{Step, Turn, Walk};
+use crate::walk::{Turn, Walk, WalkStep};
 use crate::{Guide, Least};
 use choice_problem::{Choices, Limit, Outcome, Steps};
 use plan_types::NoMemory;
@@ -17,13 +17,16 @@ pub fn search<C: Choices, L: Ledger>(
     steps: &mut Steps<L>,
 ) -> Result<Outcome, NoMemory>
     ensures outcome { IfOk result (λ outcome. outcome ≡ outcome_of (answer_of (C.problem choices.now) limit)) }
-    ensures ticks { OnOk result (steps.new ≡ steps.old + (answer_of (C.problem choices.now) limit).past.counts.visited) }
-    ensures most { OnErr result (steps.new ≤ steps.old + (answer_of (C.problem choices.now) limit).past.counts.visited) }
+    ensures ticks { OnOk result
+        (steps.new ≡ steps.old + (answer_of (C.problem choices.now) limit).past.counts.visited) }
+    ensures most { OnErr result
+        (steps.new ≤ steps.old + (answer_of (C.problem choices.now) limit).past.counts.visited) }
 {
     guided_search(alloc, choices, Least, limit, steps)
 }
 
-/// Searches a problem, trying the values of the variables that a guide picks in their order. The guide was told of nothing.
+/// Searches a problem, trying the values of the variables that a guide picks in their order. The guide was told of
+/// nothing.
 pub fn guided_search<C: Choices, G: Guide + Drop, L: Ledger>(
     alloc: Global,
     choices: &C,
@@ -32,16 +35,19 @@ pub fn guided_search<C: Choices, G: Guide + Drop, L: Ledger>(
     steps: &mut Steps<L>,
 ) -> Result<Outcome, NoMemory>
     requires { G.recalls guide [] [] }
-    ensures outcome { IfOk result (λ outcome. outcome ≡ outcome_of (guided_answer G.picks (C.problem choices.now) limit)) }
-    ensures ticks { OnOk result (steps.new ≡ steps.old + (guided_answer G.picks (C.problem choices.now) limit).past.counts.visited) }
-    ensures most { OnErr result (steps.new ≤ steps.old + (guided_answer G.picks (C.problem choices.now) limit).past.counts.visited) }
+    ensures outcome { IfOk result (λ outcome.
+        outcome ≡ outcome_of (guided_answer G.picks (C.problem choices.now) limit)) }
+    ensures ticks { OnOk result
+        (steps.new ≡ steps.old + (guided_answer G.picks (C.problem choices.now) limit).past.counts.visited) }
+    ensures most { OnErr result
+        (steps.new ≤ steps.old + (guided_answer G.picks (C.problem choices.now) limit).past.counts.visited) }
 {
     let mut walk = Walk::start(alloc, choices, guide)?;
     let mut turn = Turn::Look;
     loop {
         match walk.advance(alloc, choices, limit, steps, turn)? {
-            Step::On(next) => turn = next,
-            Step::Done(end) => return Ok(walk.outcome(end)),
+            WalkStep::On(next) => turn = next,
+            WalkStep::Done(end) => return Ok(walk.outcome(end)),
         }
     }
 }

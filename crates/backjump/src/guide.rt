@@ -1,44 +1,46 @@
 // Who picks the variables of a search.
-ghost use Rattle.std.specs.Prelude.{◌≡◌, ◌∷◌, ◌++◌, [], List, OnOk, None};
+ghost use Rattle.std.specs.Prelude.{◌≡◌, List, OnOk, OnErr};
 ghost use Rattle.qualified_goals.specs.declared.variable.Var.{Var};
 ghost use Rattle.choice_problem.specs.declared.problem.Choice.{Choice};
 ghost use Rattle.choice_problem.specs.Problem.{Problem, Lawful};
 ghost use Rattle.choice_problem.specs.Active.{open_in};
-ghost use Rattle.choice_problem.specs.Trail.{value_in};
 ghost use Rattle.choice_problem.specs.Guide as spec;
 ghost use Rattle.choice_problem.specs.Guides.{least-is-guide};
 ghost use Rattle.validation.specs.View.{Represents};
+ghost use Rattle.backjump.specs.Guide.{Follows, GoesBack, Learns, RecallsStill};
 
 use choice_problem::{ConflictSet, Trail, Var};
 use plan_types::NoMemory;
 use std::alloc::Global;
 use validation::State;
 
-/// Picks the variables of a search. It is told of each conflict set that is met and of each choice that is made or taken back.
+/// Picks the variables of a search. It is told of each conflict set that is met, and of each choice that is made or
+/// taken back.
 pub trait Guide {
     // which of the open variables it picks
     ghost picks: { spec.Guide };
 
-    // it has been told of these sets, the last one first, and these choices stand
+    // it has been told of these conflict sets, the last one first, and of these choices
     ghost recalls: { Self → List (List Var) → List Choice → Type 0 };
 
     /// The variable that is tried next, or none where none is open.
     fn pick(&self, state: &State) -> Option<Var>
-        ensures { (p : Problem) (met : List (List Var)) → Lawful p → Represents p state.now → recalls self.now met state.now.trail
-            → result ≡ picks met (open_in p state.now.trail) };
+        ensures { (p : Problem) (met : List (List Var)) → Lawful p → Represents p state.now
+            → recalls self.now met state.now.trail → result ≡ picks met (open_in p state.now.trail) };
 
-    /// A set was met after these choices.
+    /// A conflict set was met after these choices.
     fn learn(&mut self, alloc: Global, set: &ConflictSet, trail: &Trail) -> Result<(), NoMemory>
-        ensures { OnOk result ((met : List (List Var)) → recalls self.old met trail.now → recalls self.new (set.now ∷ met) trail.now) };
+        ensures ok { OnOk result (Learns recalls set.now trail.now self.old self.new) }
+        ensures err { OnErr result (RecallsStill recalls trail.now self.old self.new) };
 
     /// A choice of this variable was made.
     fn chosen(&mut self, v: Var)
-        ensures { (met : List (List Var)) (trail : List Choice) (c : Choice) → c.var ≡ v → recalls self.old met trail → recalls self.new met (trail ++ c ∷ []) };
+        ensures { Follows recalls v self.old self.new };
 
     /// The last choice, which was one of this variable, was taken back.
     fn taken_back(&mut self, v: Var) -> Result<(), NoMemory>
-        ensures { OnOk result ((met : List (List Var)) (front : List Choice) (c : Choice) → c.var ≡ v → value_in front v ≡ None
-            → recalls self.old met (front ++ c ∷ []) → recalls self.new met front) };
+        ensures ok { OnOk result (GoesBack recalls v self.old self.new) }
+        ensures err { OnErr result ((trail : List Choice) → RecallsStill recalls trail self.old self.new) };
 
     ghost is_guide: { spec.IsGuide picks };
 }

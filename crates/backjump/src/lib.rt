@@ -1,5 +1,5 @@
-//! The search for a plan: it tries the values of a variable that a guide picks, such as the least open one, in their order,
-//! and hands the set of a conflict down to the nearest choice that the set names, past those that it doesn't.
+//! The search for a plan: it tries the values of a variable that a guide picks, such as the least open one, in their
+//! order, and hands the set of a conflict down to the nearest choice that the set names, past those that it doesn't.
 #![tactic(auto)]
 
 mod answer;

@@ -1,12 +1,15 @@
 // The steps of a search: a point is opened, its values are tried, and it is left.
-ghost use Rattle.std.specs.Prelude.{◌≡◌, ◌≢◌, ◌+◌, ◌*◌, ◌<◌, ◌≤◌, ℕ, List, [], ◌∷◌, ◌++◌, length, IfOk, OnErr, OnOk, nat_lt, ◌&&◌};
+ghost use Rattle.std.specs.Prelude.{◌≡◌, ◌≢◌, ◌+◌, ◌*◌, ◌<◌, ◌≤◌, ◌&&◌, ◌++◌, ℕ, List, [], ◌∷◌};
+ghost use Rattle.std.specs.Prelude.{length, IfOk, OnErr, OnOk, nat_lt};
 ghost use Rattle.qualified_goals.specs.declared.variable.Var.{Var};
 ghost use Rattle.choice_problem.specs.Problem.{Problem};
 ghost use Rattle.choice_problem.specs.Active.{reason};
 ghost use Rattle.choice_problem.specs.Answer.{outcome_of, is_reached};
 ghost use Rattle.choice_problem.specs.ConflictSet.{union, set_of};
 ghost use Rattle.backjump.specs.declared.walk.Turn.TheVariants.{Look, Try, Back};
-ghost use Rattle.backjump.specs.Walk.{Point, Search, IsHeld, AtLook, AtValue, AtExhausted, AtCut, AtBack, IsAt, IsEnd, IsNext, IsLighter, Goes, Looks, Tries, Cuts, Exhausts, Falls, AddsToLast, IsPointSet, Stops, SomeAt, SomeValue, SomePoint, load, search_of, whole};
+ghost use Rattle.backjump.specs.Walk.{Point, Search, IsHeld, AtLook, AtValue, AtExhausted, AtCut, AtBack, IsAt, IsEnd};
+ghost use Rattle.backjump.specs.Walk.{IsNext, IsLighter, Goes, Looks, Tries, Cuts, Exhausts, Falls, AddsToLast};
+ghost use Rattle.backjump.specs.Walk.{IsPointSet, Stops, SomeAt, SomeValue, SomePoint, load, search_of, whole};
 
 use crate::Guide;
 use choice_problem::{Choice, Choices, ConflictSet, Counts, Limit, Outcome, Steps, Var};
@@ -19,7 +22,7 @@ use validation::{State, Verdict};
 /// What a search does next.
 #[derive(Drop)]
 pub enum Turn {
-    /// It looks for the least open variable.
+    /// It asks the guide for a variable.
     Look,
     /// It tries the next value of the last node.
     Try,
@@ -36,7 +39,7 @@ pub enum End {
 }
 
 #[derive(Drop)]
-pub enum Step {
+pub enum WalkStep {
     On(Turn),
     Done(End),
 }
@@ -109,7 +112,8 @@ fn blamed(
     var: Var,
     reason: &ConflictSet,
 ) -> Result<ConflictSet, NoMemory>
-    ensures { IfOk result (λ set. (vars : List Var) → reason.now ≡ set_of vars → set ≡ union failed.now (set_of (var ∷ vars))) }
+    ensures { IfOk result (λ set. (vars : List Var) → reason.now ≡ set_of vars
+        → set ≡ union failed.now (set_of (var ∷ vars))) }
 {
     let alone = ConflictSet::of(alloc, &[var])?;
     let open = alone.union(alloc, reason)?;
@@ -121,7 +125,8 @@ impl<G: Guide + Drop> Walk<G> {
     /// The start, before any choice, with a guide that was told of nothing.
     pub fn start<C: Choices>(alloc: Global, choices: &C, guide: G) -> Result<Walk<G>, NoMemory>
         requires { G.recalls guide [] [] }
-        ensures { IfOk result (λ walk. (limit : Limit) → AtLook G.recalls (search_of (C.problem choices.now) G.picks limit) walk 0) }
+        ensures { IfOk result (λ walk. (limit : Limit) →
+            AtLook G.recalls (search_of (C.problem choices.now) G.picks limit) walk 0) }
     {
         let state = State::new(alloc, choices)?;
         Ok(Walk {
@@ -161,17 +166,17 @@ impl<G: Guide + Drop> Walk<G> {
         alloc: Global,
         choices: &C,
         limit: Limit,
-    ) -> Result<Step, NoMemory>
+    ) -> Result<WalkStep, NoMemory>
         requires { SomeAt G.recalls (search_of (C.problem choices.now) G.picks limit) self.old Look }
         ensures { IfOk result (Looks G.recalls (search_of (C.problem choices.now) G.picks limit) self.old self.new) }
     {
         match self.guide.pick(&self.state) {
-            None => Ok(Step::Done(End::Whole)),
+            None => Ok(WalkStep::Done(End::Whole)),
             Some(var) => {
                 let values = choices.order(alloc, var, self.state.trail())?;
                 self.failed.push(ConflictSet::new(alloc))?;
                 self.tree.grow(var, values)?;
-                Ok(Step::On(Turn::Try))
+                Ok(WalkStep::On(Turn::Try))
             }
         }
     }
@@ -184,10 +189,11 @@ impl<G: Guide + Drop> Walk<G> {
         limit: Limit,
         steps: &mut Steps<L>,
         value: u64,
-    ) -> Result<Step, NoMemory>
+    ) -> Result<WalkStep, NoMemory>
         requires { SomeValue G.recalls (search_of (C.problem choices.now) G.picks limit) self.old value }
         ensures ticks { steps.new ≡ steps.old + 1 }
-        ensures step { IfOk result (Tries G.recalls (search_of (C.problem choices.now) G.picks limit) value self.old self.new) }
+        ensures step { IfOk result
+            (Tries G.recalls (search_of (C.problem choices.now) G.picks limit) value self.old self.new) }
     {
         let choice = Choice {
             var: self.tree.top(),
@@ -197,28 +203,28 @@ impl<G: Guide + Drop> Walk<G> {
         match self.state.choose_open(alloc, choices, choice, steps)? {
             Verdict::Accepted => {
                 self.guide.chosen(choice.var);
-                Ok(Step::On(Turn::Look))
+                Ok(WalkStep::On(Turn::Look))
             }
             Verdict::Conflict(set) => {
                 self.guide.learn(alloc, &set, self.state.trail())?;
-                Ok(Step::On(Turn::Back(set)))
+                Ok(WalkStep::On(Turn::Back(set)))
             }
         }
     }
 
     // Leaves the last node, and hands its set to the one below.
-    fn cut(&mut self, set: ConflictSet) -> Result<Step, NoMemory>
+    fn cut(&mut self, set: ConflictSet) -> Result<WalkStep, NoMemory>
         requires { SomePoint G.recalls self.old }
         ensures { IfOk result (Cuts G.recalls set self.old self.new) }
     {
         self.tree.back();
         self.failed.pop();
         if self.tree.depth() == 0 {
-            return Ok(Step::Done(End::NoPlan(set)));
+            return Ok(WalkStep::Done(End::NoPlan(set)));
         }
         self.state.undo();
         self.guide.taken_back(self.tree.top())?;
-        Ok(Step::On(Turn::Back(set)))
+        Ok(WalkStep::On(Turn::Back(set)))
     }
 
     // The set of the last node, of which all values have failed.
@@ -233,12 +239,12 @@ impl<G: Guide + Drop> Walk<G> {
     }
 
     // Ends the last node, of which all values have failed.
-    fn exhaust(&mut self, alloc: Global, limit: Limit) -> Result<Step, NoMemory>
+    fn exhaust(&mut self, alloc: Global, limit: Limit) -> Result<WalkStep, NoMemory>
         requires { SomePoint G.recalls self.old }
         ensures { IfOk result (Exhausts G.recalls G.picks limit self.old self.new) }
     {
         if gives_up(limit, self.tree.depth(), self.counts.exhausted) {
-            return Ok(Step::Done(End::Stopped));
+            return Ok(WalkStep::Done(End::Stopped));
         }
         let set = self.exhausted_set(alloc)?;
         self.counts.exhausted = self.counts.exhausted.saturating_add(1);
@@ -253,10 +259,13 @@ impl<G: Guide + Drop> Walk<G> {
         choices: &C,
         limit: Limit,
         steps: &mut Steps<L>,
-    ) -> Result<Step, NoMemory>
+    ) -> Result<WalkStep, NoMemory>
         requires { SomeAt G.recalls (search_of (C.problem choices.now) G.picks limit) self.old Try }
-        ensures ok { IfOk result (Goes G.recalls (search_of (C.problem choices.now) G.picks limit) self.old self.new Try steps.old steps.new) }
-        ensures err { OnErr result (Stops G.recalls (search_of (C.problem choices.now) G.picks limit) self.old Try steps.old steps.new) }
+        ensures ok { IfOk result
+            (Goes G.recalls (search_of (C.problem choices.now) G.picks limit)
+            self.old self.new Try steps.old steps.new) }
+        ensures err { OnErr result
+            (Stops G.recalls (search_of (C.problem choices.now) G.picks limit) self.old Try steps.old steps.new) }
     {
         match self.tree.next_value() {
             None => self.exhaust(alloc, limit),
@@ -265,13 +274,13 @@ impl<G: Guide + Drop> Walk<G> {
     }
 
     // The value that the last node gave has failed: a set that names its variable is kept there.
-    fn fall(&mut self, alloc: Global, set: ConflictSet) -> Result<Step, NoMemory>
+    fn fall(&mut self, alloc: Global, set: ConflictSet) -> Result<WalkStep, NoMemory>
         requires { SomePoint G.recalls self.old }
         ensures { IfOk result (Falls G.recalls set self.old self.new) }
     {
         if set.has(self.tree.top()) {
             add_failed(alloc, &mut self.failed, &set)?;
-            return Ok(Step::On(Turn::Try));
+            return Ok(WalkStep::On(Turn::Try));
         }
         self.cut(set)
     }
@@ -284,10 +293,13 @@ impl<G: Guide + Drop> Walk<G> {
         limit: Limit,
         steps: &mut Steps<L>,
         turn: Turn,
-    ) -> Result<Step, NoMemory>
+    ) -> Result<WalkStep, NoMemory>
         requires { SomeAt G.recalls (search_of (C.problem choices.now) G.picks limit) self.old turn }
-        ensures ok { IfOk result (Goes G.recalls (search_of (C.problem choices.now) G.picks limit) self.old self.new turn steps.old steps.new) }
-        ensures err { OnErr result (Stops G.recalls (search_of (C.problem choices.now) G.picks limit) self.old turn steps.old steps.new) }
+        ensures ok { IfOk result
+            (Goes G.recalls (search_of (C.problem choices.now) G.picks limit)
+            self.old self.new turn steps.old steps.new) }
+        ensures err { OnErr result
+            (Stops G.recalls (search_of (C.problem choices.now) G.picks limit) self.old turn steps.old steps.new) }
     {
         match turn {
             Turn::Look => self.look(alloc, choices, limit),

@@ -1,1 +1,1 @@
-pub mod Path
+pub mod NodePaths

@@ -1,6 +1,6 @@
 // The path of nodes from the first choice of a search to the last.
 ghost use Rattle.std.specs.Prelude.{◌≡◌, ◌≢◌, ◌+◌, ◌-◌, ◌<◌, ◌≤◌, List, [], ◌∷◌, ◌++◌, length, drop, slice_index_or, MatchOption, OnOk, OnErr};
-ghost use Rattle.choice_tree.specs.declared.tree.Node.{Node};
+ghost use Rattle.choice_tree.specs.declared.tree.TreeNode.{TreeNode};
 ghost use Rattle.choice_tree.specs.Tree.{fresh, stepped, values_left, choice_at, Gives, GivesNext, HasGiven, IsGrown};
 
 use choice_problem::{Choice, Var};
@@ -10,14 +10,14 @@ use std::marker::Model;
 
 /// A variable with its values in order, of which the first were given.
 #[derive(Drop)]
-pub struct Node {
+pub struct TreeNode {
     var: Var,
     values: List<u64>,
     given: usize,
 }
 
 // The next value, where one is left.
-fn give(node: &mut Node) -> Option<u64>
+fn give(node: &mut TreeNode) -> Option<u64>
     ensures next { MatchOption result ((values_left node.old ≡ []) × (node.new ≡ node.old)) (Gives node.old node.new) }
     ensures within { node.old.given ≤ length node.old.values → node.new.given ≤ length node.new.values }
 {
@@ -29,7 +29,7 @@ fn give(node: &mut Node) -> Option<u64>
     Some(value)
 }
 
-fn last_given(node: &Node) -> Choice
+fn last_given(node: &TreeNode) -> Choice
     requires some { 0 < node.now.given }
     requires within { node.now.given ≤ length node.now.values }
     ensures { result ≡ choice_at node.now }
@@ -43,15 +43,15 @@ fn last_given(node: &Node) -> Choice
 /// A path of nodes, of which each but the last has given a value.
 #[derive(Drop)]
 pub struct Tree {
-    nodes: Vec<Node>,
+    nodes: Vec<TreeNode>,
 }
 
 impl Model for Tree {
     ghost use Rattle.std.specs.Prelude.{List};
-    ghost use Rattle.choice_tree.specs.declared.tree.Node.{Node};
+    ghost use Rattle.choice_tree.specs.declared.tree.TreeNode.{TreeNode};
     ghost use Rattle.choice_tree.specs.Tree.{IsGrown};
 
-    ghost Value = { List Node };
+    ghost Value = { List TreeNode };
 
     ghost view = { λ t. t.nodes.items };
 
@@ -79,7 +79,7 @@ impl Tree {
     /// The variable of the last node.
     pub fn top(&self) -> Var
         requires { self.now ≢ [] }
-        ensures { (outer : List Node) (node : Node) → self.now ≡ outer ++ node ∷ [] → result ≡ node.var }
+        ensures { (outer : List TreeNode) (node : TreeNode) → self.now ≡ outer ++ node ∷ [] → result ≡ node.var }
     {
         self.nodes[self.nodes.len() - 1].var
     }
@@ -90,7 +90,7 @@ impl Tree {
         ensures ok { OnOk result (self.new ≡ self.old ++ fresh var values ∷ []) }
         ensures err { OnErr result (self.new ≡ self.old) }
     {
-        self.nodes.push(Node {
+        self.nodes.push(TreeNode {
             var,
             values,
             given: 0,
@@ -101,7 +101,7 @@ impl Tree {
     /// The next value of the last node. There is none where all were given.
     pub fn next_value(&mut self) -> Option<u64>
         requires { self.old ≢ [] }
-        ensures { (outer : List Node) (node : Node) → self.old ≡ outer ++ node ∷ [] → MatchOption result
+        ensures { (outer : List TreeNode) (node : TreeNode) → self.old ≡ outer ++ node ∷ [] → MatchOption result
             ((values_left node ≡ []) × (self.new ≡ self.old))
             (GivesNext outer node self.new) }
     {
@@ -112,7 +112,7 @@ impl Tree {
     /// Takes the last node off.
     pub fn back(&mut self)
         requires { self.old ≢ [] }
-        ensures { (outer : List Node) (node : Node) → self.old ≡ outer ++ node ∷ [] → self.new ≡ outer }
+        ensures { (outer : List TreeNode) (node : TreeNode) → self.old ≡ outer ++ node ∷ [] → self.new ≡ outer }
     {
         self.nodes.pop();
     }
@@ -120,8 +120,8 @@ impl Tree {
     /// The choice that a node stands for: its variable, with the value that it gave last.
     pub fn trail_at(&self, i: u64) -> Choice
         requires node { i < length self.now }
-        requires given { (d : Node) → 0 < (slice_index_or self.now i d).given }
-        ensures { (d : Node) → result ≡ choice_at (slice_index_or self.now i d) }
+        requires given { (d : TreeNode) → 0 < (slice_index_or self.now i d).given }
+        ensures { (d : TreeNode) → result ≡ choice_at (slice_index_or self.now i d) }
     {
         last_given(&self.nodes[i as usize])
     }

@@ -1,5 +1,5 @@
 pub mod Restricts
 pub mod Searches
-pub mod Sets
+pub mod ShrunkSets
 pub mod Tightens
 pub mod Known

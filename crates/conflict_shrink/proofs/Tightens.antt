@@ -25,7 +25,7 @@ use Rattle.conflict_shrink.specs.RestrictedLaws.{restricted_lawful}
 use Rattle.conflict_shrink.specs.Shrinking.{GivesUp, ShrinkEnd, Tight, OverBudget, IsFreed, IsTight, answer_without, after_search, cut, go_on, limit_after, shrink_from, shrinking, shrunk_at, spent_with, tried, untried_stage}
 use Rattle.conflict_shrink.proofs.Restricts.{holds-in-whole, admits-by-part}
 use Rattle.conflict_shrink.proofs.Searches.{Says, says}
-use Rattle.conflict_shrink.proofs.Sets.{without-has, has-without, without-itself, without-part, without-middle, value_in-cut, cut-new, zip-push, zip-more, zip-mapped}
+use Rattle.conflict_shrink.proofs.ShrunkSets.{without-has, has-without, without-itself, without-part, without-middle, value_in-cut, cut-new, zip-push, zip-more, zip-mapped}
 
 -- what is known stays known without a variable
 pub known-without : (p : Problem) (v : Var) (set : List Var) → are_known p set ≡ true → are_known p (without v set) ≡ true

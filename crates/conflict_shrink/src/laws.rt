@@ -16,6 +16,7 @@ pub fn admits_none_as_restricted()
 
 /// The set with which a search fails can be shrunk: it admits none, and its variables are known.
 pub fn failed_sets_can_be_shrunk()
-    ensures { (p : Problem) (guide : Guide) (limit : Limit) (set : List Var) (counts : Counts) → Lawful p → IsGuide guide
+    ensures { (p : Problem) (guide : Guide) (limit : Limit) (set : List Var) (counts : Counts)
+        → Lawful p → IsGuide guide
         → outcome_of (guided_answer guide p limit) ≡ Outcome.NoPlan set counts → CanBeShrunk p set }
 {}

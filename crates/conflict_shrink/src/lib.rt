@@ -1,5 +1,6 @@
-//! Conflict sets from which nothing can be dropped. A conflict set admits none, and may name more variables than that takes.
-//! Each is tried in turn: the problem of the other variables is searched, and where it has no plan the variable is dropped.
+//! Conflict sets from which nothing can be dropped. A conflict set admits none, and may name more variables than that
+//! takes. Each is tried in turn: the problem of the other variables is searched, and where it has no plan the variable
+//! is dropped.
 #![tactic(auto)]
 
 mod laws;

@@ -4,7 +4,9 @@ ghost use Rattle.plan_types.specs.declared.limit.Limit.{Limit};
 ghost use Rattle.choice_problem.specs.General.{general};
 ghost use Rattle.conflict_shrink.specs.declared.shrinking.ShrinkFault.TheVariants.{NoMemory as shrink_no_memory};
 ghost use Rattle.conflict_shrink.specs.Restricted.{are_known, CanBeShrunk};
-ghost use Rattle.conflict_shrink.specs.Shrinking.{GoesOn, GivesUp, EndsOver, EndsTight, IsTight, cut, limit_after, shrinking, shrunk_at, spent_with, tried, tries_without, untried_stage};
+ghost use Rattle.conflict_shrink.specs.Shrinking.{GoesOn, GivesUp, EndsOver, EndsTight, IsTight, cut};
+ghost use Rattle.conflict_shrink.specs.Shrinking.{limit_after, shrinking, shrunk_at, spent_with, tried};
+ghost use Rattle.conflict_shrink.specs.Shrinking.{tries_without, untried_stage};
 
 use crate::Restricted;
 use backjump::search;
@@ -25,7 +27,8 @@ pub struct Shrunk {
 #[derive(Clone, Copy, Debug, PartialEq, Eq, Drop)]
 pub enum ShrinkFault {
     NoMemory,
-    /// The searches exhausted so many points together, and the last one gave up. It stays at 2^64 - 1 once it has reached it.
+    /// The searches exhausted so many points together, and the last one gave up. The count stays at 2^64 - 1 once it
+    /// has reached it.
     TooLong { spent: u64 },
 }
 
@@ -37,8 +40,8 @@ impl From<NoMemory> for ShrinkFault {
     }
 }
 
-/// Where a shrinking is: the set that is left, what was found without each variable that stays, and how many points were
-/// exhausted.
+/// Where a shrinking is: the set that is left, what was found without each variable that stays, and how many points
+/// were exhausted.
 #[derive(Drop)]
 struct Stage {
     left: ConflictSet,
@@ -105,8 +108,10 @@ impl Stage {
         requires { IsTrue (are_known (C.problem choices.now) self.old.left) }
         ensures ok { OnOk result (tried (C.problem choices.now) budget v self.old ≡ GoesOn self.new) }
         ensures known { OnOk result (IsTrue (are_known (C.problem choices.now) self.new.left)) }
-        ensures too_long { (spent : ℕ) → result ≡ Err (ShrinkFault.TooLong spent) → tried (C.problem choices.now) budget v self.old ≡ GivesUp spent }
-        ensures ticks { result ≢ Err ShrinkFault.NoMemory → steps.new ≡ steps.old + tries_without (C.problem choices.now) budget v self.old }
+        ensures too_long { (spent : ℕ) → result ≡ Err (ShrinkFault.TooLong spent)
+            → tried (C.problem choices.now) budget v self.old ≡ GivesUp spent }
+        ensures ticks { result ≢ Err ShrinkFault.NoMemory
+            → steps.new ≡ steps.old + tries_without (C.problem choices.now) budget v self.old }
         ensures most { steps.new ≤ steps.old + tries_without (C.problem choices.now) budget v self.old }
     {
         let others = self.left.without(alloc, v)?;
@@ -140,8 +145,8 @@ impl Stage {
     }
 }
 
-/// The part of a conflict set that is left once each variable was tried in goal order, and dropped where the others that are left
-/// admit none either. The budget is of the exhausted points of all searches together.
+/// The part of a conflict set that is left once each variable was tried in goal order, and dropped where the others
+/// that are left admit none either. The budget is of the exhausted points of all searches together.
 pub fn shrink<C: Choices, L: Ledger>(
     alloc: Global,
     choices: &C,
@@ -152,9 +157,11 @@ pub fn shrink<C: Choices, L: Ledger>(
     requires { CanBeShrunk (C.problem choices.now) set.now }
     ensures shrunk { IfOk result (EndsTight (shrinking (C.problem choices.now) set.now budget)) }
     ensures tight { IfOk result (IsTight (general (C.problem choices.now)) set.now) }
-    ensures too_long { (spent : ℕ) → result ≡ Err (ShrinkFault.TooLong spent) → EndsOver (shrinking (C.problem choices.now) set.now budget) spent }
+    ensures too_long { (spent : ℕ) → result ≡ Err (ShrinkFault.TooLong spent)
+        → EndsOver (shrinking (C.problem choices.now) set.now budget) spent }
     ensures unlimited { (spent : ℕ) → budget ≡ Limit.Unlimited → result ≢ Err (ShrinkFault.TooLong spent) }
-    ensures ticks { result ≢ Err ShrinkFault.NoMemory → steps.new ≡ steps.old + (shrinking (C.problem choices.now) set.now budget).visited }
+    ensures ticks { result ≢ Err ShrinkFault.NoMemory
+        → steps.new ≡ steps.old + (shrinking (C.problem choices.now) set.now budget).visited }
     ensures most { steps.new ≤ steps.old + (shrinking (C.problem choices.now) set.now budget).visited }
 {
     let mut stage = Stage::start(alloc, set)?;

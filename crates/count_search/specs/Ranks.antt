@@ -1,5 +1,6 @@
 -- Ranks of variables: what was met most often comes first, and of those that were met as often the least.
-use Rattle.std.specs.Prelude.{◌≡◌, ℕ, ◌+◌, ◌-◌, min, nat_lt, nat_eq, Bool, false, cond, ◌&&◌, List, [], ◌∷◌, Option, Some, None, is_none}
+use Rattle.std.specs.Prelude.{◌≡◌, ℕ, ◌+◌, ◌-◌, min, nat_lt, nat_eq, Bool, cond, ◌&&◌, ◌||◌, List, [], ◌∷◌, Option, None, is_none}
+use Rattle.std.specs.Option.{unwrap_or}
 use Rattle.std.specs.List.{list_any}
 use Rattle.std.specs.Ordering.{nat_cmp, ordering_then, is_eq}
 use Rattle.std.specs.declared.cmp.Ordering.{Ordering}
@@ -27,23 +28,25 @@ has_rank ranks r = list_any (λ q. is_eq (rank_cmp r q)) ranks
 abbrev pub rank_of : ℕ → Var → Rank
 rank_of score v = record { rest = cap - score; var = v }
 
--- whether it is that of a variable that was met so often, where it was met
-abbrev pub is_rank_of : Option ℕ → Var → Rank → Bool
-is_rank_of None v r = false
-is_rank_of (Some score) v r = same_rank (rank_of score v) r
-
 -- a variable that was met has its rank as long as it isn't chosen
 abbrev pub is_ranked : (Var → ℕ) → List Choice → Rank → Bool
 is_ranked scores trail r = nat_lt 0 (scores r.var) && (nat_eq r.rest (cap - scores r.var) && is_none (value_in trail r.var))
 
--- a count, where there is one
-abbrev pub noted : ℕ → Option ℕ
-noted score = cond (nat_eq score 0) None (Some score)
+-- how often a variable was met, by a table that may lack it
+abbrev pub met_by : List (Var × ℕ) → Var → ℕ
+met_by table v = unwrap_or (entry table v) 0
 
 -- a table and ranks say how often each variable was met
 pub record AreScored (table : List (Var × ℕ)) (ranks : List Rank) (scores : Var → ℕ) (trail : List Choice) : Type 0 where
-  pub counted : (v : Var) → entry table v ≡ noted (scores v)
+  pub counted : (v : Var) → met_by table v ≡ scores v
   pub ranked : (r : Rank) → has_rank ranks r ≡ is_ranked scores trail r
+
+-- on the way from some scores to the next: the table has the first ones, the ranks are those of both, and the table has an
+-- entry for each variable whose score is to rise
+pub record AreBetween (table : List (Var × ℕ)) (ranks : List Rank) (scores next : Var → ℕ) (trail : List Choice) : Type 0 where
+  pub counted : (v : Var) → met_by table v ≡ scores v
+  pub ranked : (r : Rank) → has_rank ranks r ≡ is_ranked scores trail r || is_ranked next trail r
+  pub ready : (v : Var) → entry table v ≡ None → next v ≡ scores v
 
 -- a variable was met once more
 abbrev pub raised : Var → (Var → ℕ) → Var → ℕ

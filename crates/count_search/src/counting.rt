@@ -1,17 +1,18 @@
 // How often each variable was in a conflict set, and which open one was so most often.
-ghost use Rattle.std.specs.Prelude.{◌≡◌, ◌++◌, ◌∷◌, [], ℕ, List, OnOk, Some, None, is_some, find, map};
+ghost use Rattle.std.specs.Prelude.{◌≡◌, ◌≤◌, ℕ, List, [], IsTrue, OnOk, OnErr, is_some, find, length, map, take};
 ghost use Rattle.std.specs.List.Sorted.{IsStrictlySortedBy};
 ghost use Rattle.qualified_goals.specs.declared.variable.Var.{Var};
 ghost use Rattle.choice_problem.specs.declared.problem.Choice.{Choice};
 ghost use Rattle.choice_problem.specs.Problem.{Problem, Lawful};
 ghost use Rattle.choice_problem.specs.Active.{is_open};
+ghost use Rattle.choice_problem.specs.ConflictSet.{is_rising};
 ghost use Rattle.choice_problem.specs.Trail.{value_in};
 ghost use Rattle.choice_problem.specs.Guide as spec;
 ghost use Rattle.choice_problem.specs.Guides.{most-met-is-guide};
 ghost use Rattle.validation.specs.View.{Represents};
-ghost use Rattle.count_search.specs.Ranks.{rank_cmp, AreScored, raised};
+ghost use Rattle.count_search.specs.Ranks.{rank_cmp, AreBetween, AreScored, met_by, raised, raised_all};
 
-use crate::ranks::{Rank, drop_ranked, put, rank_of};
+use crate::ranks::{Rank, put, rank_of, take_out};
 use backjump::Guide;
 use choice_problem::{ConflictSet, Table, Trail, Var};
 use plan_types::NoMemory;
@@ -21,9 +22,9 @@ use validation::State;
 
 /// Picks the open variable that was in the most conflict sets so far, and of those the least.
 pub struct Counting {
-    // In how many sets a variable was, where it was in one.
+    // In how many sets each variable was. A variable that it lacks was in none.
     scores: Table,
-    // Those variables as long as they aren't chosen.
+    // The variables that were in some set and aren't chosen.
     ranks: BTreeSet<Rank>,
 }
 
@@ -48,19 +49,107 @@ impl Counting {
         }
     }
 
-    // A variable was in one set more.
-    fn raise(&mut self, v: Var, chosen: bool) -> Result<(), NoMemory>
-        ensures { OnOk result ((scores : Var → ℕ) (trail : List Choice) → AreScored self.old.scores self.old.ranks.keys scores trail
-            → is_some (value_in trail v) ≡ chosen → AreScored self.new.scores self.new.ranks.keys (raised v scores) trail) }
+    // In how many sets a variable was.
+    fn score(&self, v: Var) -> u64
+        ensures { result ≡ met_by self.now.scores v }
     {
-        let before = self.scores.get(v);
-        let after = before.unwrap_or(0).saturating_add(1);
-        self.scores.set(v, after)?;
+        self.scores.get(v).unwrap_or(0)
+    }
+}
+
+// A set is met in two steps. The first takes all memory: each of its variables gets an entry, and its next rank beside
+// the one that it has. The second raises the scores and takes the old ranks out.
+impl Counting {
+    // The first step for one variable.
+    fn prepare(&mut self, v: Var, chosen: bool) -> Result<(), NoMemory>
+        ensures ok { OnOk result ((scores next : Var → ℕ) (trail : List Choice) → is_some (value_in trail v) ≡ chosen
+            → AreBetween self.old.scores self.old.ranks.keys scores next trail → next v ≡ scores v
+            → AreBetween self.new.scores self.new.ranks.keys scores (raised v next) trail) }
+        ensures err { OnErr result ((scores next : Var → ℕ) (trail : List Choice)
+            → AreBetween self.old.scores self.old.ranks.keys scores next trail
+            → AreBetween self.new.scores self.new.ranks.keys scores next trail) }
+    {
+        let score = self.score(v);
+        self.scores.set(v, score)?;
         if chosen {
             return Ok(());
         }
-        drop_ranked(&mut self.ranks, before, v);
-        put(&mut self.ranks, rank_of(after, v))
+        put(&mut self.ranks, rank_of(score.saturating_add(1), v))
+    }
+
+    // The first step for one variable taken back.
+    fn withdraw(&mut self, v: Var)
+        ensures { (scores next : Var → ℕ) (trail : List Choice) → next v ≡ scores v
+            → AreBetween self.old.scores self.old.ranks.keys scores (raised v next) trail
+            → AreBetween self.new.scores self.new.ranks.keys scores next trail }
+    {
+        let score = self.score(v);
+        if score == u64::MAX {
+            return;
+        }
+        take_out(&mut self.ranks, rank_of(score + 1, v));
+    }
+
+    // The second step for one variable.
+    fn raise(&mut self, v: Var)
+        ensures { (scores next : Var → ℕ) (trail : List Choice) → next v ≡ raised v scores v
+            → AreBetween self.old.scores self.old.ranks.keys scores next trail
+            → AreBetween self.new.scores self.new.ranks.keys (raised v scores) next trail }
+    {
+        let score = self.score(v);
+        if score == u64::MAX {
+            return;
+        }
+        // It has its entry, so that this takes no memory.
+        let _ = self.scores.set(v, score + 1);
+        take_out(&mut self.ranks, rank_of(score, v));
+    }
+}
+
+impl Counting {
+    // The first step for the variables of a set. Where memory is wanting it is taken back.
+    fn prepare_all(&mut self, vars: &[Var], trail: &Trail) -> Result<(), NoMemory>
+        requires { IsTrue (is_rising vars.now) }
+        ensures ok { OnOk result ((scores : Var → ℕ) → AreScored self.old.scores self.old.ranks.keys scores trail.now
+            → AreBetween self.new.scores self.new.ranks.keys scores (raised_all vars.now scores) trail.now) }
+        ensures err { OnErr result ((scores : Var → ℕ) → AreScored self.old.scores self.old.ranks.keys scores trail.now
+            → AreScored self.new.scores self.new.ranks.keys scores trail.now) }
+    {
+        for place in 0..vars.len() {
+            let v = vars[place];
+            if self.prepare(v, trail.has(v)).is_err() {
+                self.withdraw_first(vars, place);
+                return Err(NoMemory);
+            }
+        }
+        Ok(())
+    }
+
+    // The first step for the first variables of a set taken back.
+    fn withdraw_first(&mut self, vars: &[Var], count: usize)
+        requires rising { IsTrue (is_rising vars.now) }
+        requires within { count ≤ length vars.now }
+        ensures { (scores : Var → ℕ) (trail : List Choice)
+            → AreBetween self.old.scores self.old.ranks.keys scores (raised_all (take count vars.now) scores) trail
+            → AreScored self.new.scores self.new.ranks.keys scores trail }
+    {
+        let mut left = count;
+        while left > 0 {
+            left -= 1;
+            self.withdraw(vars[left]);
+        }
+    }
+
+    // The second step for the variables of a set.
+    fn raise_all(&mut self, vars: &[Var])
+        requires { IsTrue (is_rising vars.now) }
+        ensures { (scores : Var → ℕ) (trail : List Choice)
+            → AreBetween self.old.scores self.old.ranks.keys scores (raised_all vars.now scores) trail
+            → AreScored self.new.scores self.new.ranks.keys (raised_all vars.now scores) trail }
+    {
+        for place in 0..vars.len() {
+            self.raise(vars[place]);
+        }
     }
 }
 
@@ -91,22 +180,23 @@ impl Guide for Counting {
     }
 
     fn learn(&mut self, _: Global, set: &ConflictSet, trail: &Trail) -> Result<(), NoMemory> {
-        for v in set.vars() {
-            self.raise(*v, trail.has(*v))?;
-        }
+        let vars = set.vars();
+        self.prepare_all(vars, trail)?;
+        self.raise_all(vars);
         Ok(())
     }
 
     fn chosen(&mut self, v: Var) {
-        let score = self.scores.get(v);
-        drop_ranked(&mut self.ranks, score, v);
+        let rank = rank_of(self.score(v), v);
+        take_out(&mut self.ranks, rank);
     }
 
     fn taken_back(&mut self, v: Var) -> Result<(), NoMemory> {
-        match self.scores.get(v) {
-            Some(score) => put(&mut self.ranks, rank_of(score, v)),
-            None => Ok(()),
+        let score = self.score(v);
+        if score == 0 {
+            return Ok(());
         }
+        put(&mut self.ranks, rank_of(score, v))
     }
 
     ghost is_guide = { most-met-is-guide };

@@ -1,5 +1,5 @@
-//! The search that counts conflicts: at each point it tries the open variable that was in the most conflict sets so far,
-//! the least in goal order among equals. What it finds is whole and valid, and needn't be the first.
+//! The search that counts conflicts: at each point it tries the open variable that was in the most conflict sets so
+//! far, the least in goal order among equals. What it finds is whole and valid, and needn't be the first.
 #![tactic(auto)]
 
 mod counting;

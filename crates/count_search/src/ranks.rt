@@ -1,6 +1,6 @@
 // Variables in the order of how often they were met.
-ghost use Rattle.std.specs.Prelude.{◌≡◌, ◌||◌, ◌&&◌, not, OnOk};
-ghost use Rattle.count_search.specs.Ranks.{rank_of, same_rank, has_rank, is_rank_of};
+ghost use Rattle.std.specs.Prelude.{◌≡◌, ◌||◌, ◌&&◌, not, OnOk, OnErr};
+ghost use Rattle.count_search.specs.Ranks.{rank_of, same_rank, has_rank};
 
 use choice_problem::Var;
 use plan_types::NoMemory;
@@ -24,7 +24,9 @@ pub(crate) fn rank_of(score: u64, var: Var) -> Rank
 }
 
 pub(crate) fn put(ranks: &mut BTreeSet<Rank>, rank: Rank) -> Result<(), NoMemory>
-    ensures { OnOk result ((r : Rank) → has_rank ranks.new.keys r ≡ (same_rank rank r || has_rank ranks.old.keys r)) }
+    ensures ok { OnOk result ((r : Rank) →
+        has_rank ranks.new.keys r ≡ (same_rank rank r || has_rank ranks.old.keys r)) }
+    ensures err { OnErr result (ranks.new.keys ≡ ranks.old.keys) }
 {
     match ranks.insert(rank) {
         Ok(_) => Ok(()),
@@ -32,11 +34,9 @@ pub(crate) fn put(ranks: &mut BTreeSet<Rank>, rank: Rank) -> Result<(), NoMemory
     }
 }
 
-/// Takes the rank of a variable out, where it was met.
-pub(crate) fn drop_ranked(ranks: &mut BTreeSet<Rank>, score: Option<u64>, var: Var)
-    ensures { (r : Rank) → has_rank ranks.new.keys r ≡ (not (is_rank_of score var r) && has_rank ranks.old.keys r) }
+/// Takes a rank out, where it is there. It takes no memory.
+pub(crate) fn take_out(ranks: &mut BTreeSet<Rank>, rank: Rank)
+    ensures { (r : Rank) → has_rank ranks.new.keys r ≡ (not (same_rank rank r) && has_rank ranks.old.keys r) }
 {
-    if let Some(score) = score {
-        let _ = ranks.remove(&rank_of(score, var));
-    }
+    let _ = ranks.remove(&rank);
 }

@@ -11,18 +11,21 @@ use plan_types::NoMemory;
 use std::alloc::Global;
 use std::sync::ledger::Ledger;
 
-/// Searches a problem, trying the values of the open variable that was in the most conflict sets so far. Each try is counted by
-/// `steps`.
+/// Searches a problem, trying the values of the open variable that was in the most conflict sets so far. Each try is
+/// counted by `steps`.
 pub fn count_search<C: Choices, L: Ledger>(
     alloc: Global,
     choices: &C,
     limit: Limit,
     steps: &mut Steps<L>,
 ) -> Result<Outcome, NoMemory>
-    ensures outcome { IfOk result (λ outcome. outcome ≡ outcome_of (guided_answer most_met (C.problem choices.now) limit)) }
+    ensures outcome { IfOk result (λ outcome.
+        outcome ≡ outcome_of (guided_answer most_met (C.problem choices.now) limit)) }
     ensures means { IfOk result (MeansCounted (C.problem choices.now) limit) }
-    ensures ticks { OnOk result (steps.new ≡ steps.old + (guided_answer most_met (C.problem choices.now) limit).past.counts.visited) }
-    ensures most { OnErr result (steps.new ≤ steps.old + (guided_answer most_met (C.problem choices.now) limit).past.counts.visited) }
+    ensures ticks { OnOk result
+        (steps.new ≡ steps.old + (guided_answer most_met (C.problem choices.now) limit).past.counts.visited) }
+    ensures most { OnErr result
+        (steps.new ≤ steps.old + (guided_answer most_met (C.problem choices.now) limit).past.counts.visited) }
 {
     guided_search(alloc, choices, Counting::new(alloc), limit, steps)
 }

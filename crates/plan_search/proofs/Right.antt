@@ -34,7 +34,7 @@ use Rattle.cabal_problem.specs.WholeDemands.{whole_problem}
 use Rattle.solver_index.specs.Orders.{AreOrders}
 use Rattle.conflict_shrink.specs.declared.shrinking.Shrunk.{Shrunk as ShrunkSet}
 use Rattle.conflict_shrink.specs.Shrinking.{IsFreed, IsTight}
-use Rattle.conflict_shrink.proofs.Sets.{zip-more}
+use Rattle.conflict_shrink.proofs.ShrunkSets.{zip-more}
 use Rattle.plan_search.specs.Blame.{IsBlame, IsBlameOfSet, MeansBlame, blame_of}
 use Rattle.plan_search.specs.Finding.{IsFindingOf, guide_of}
 use Rattle.plan_search.specs.Meaning.{AreToBlame, IsBlamed, IsFirstTrail, IsValidTrail, IsWholeProblem, Means, MeansFailure, MeansOutcome, MeansTrail, ReachesLimit}

@@ -1,7 +1,7 @@
 -- the last set is united with the other
 use Rattle.std.proofs.Common.{◌≡◌, ◌-◌, length, [], ◌∷◌, ◌++◌, ap, ◌∙◌, arith}
 use Rattle.choice_problem.specs.ConflictSet.{union}
-use Rattle.choice_tree.proofs.Path.{set-last}
+use Rattle.choice_tree.proofs.NodePaths.{set-last}
 use Rattle.backjump.proofs.walk.add_failed.Goals as goal
 
 pub returns : goal.returns

@@ -9,8 +9,8 @@ or-as : (a b : Bool) → cond a true b ≡ a || b
 or-as true b = refl
 or-as false b = refl
 
-pub returns-in-Ok : goal.returns-in-Ok
-returns-in-Ok c r =
+pub returns-in-Ok-clause-ok : goal.returns-in-Ok-clause-ok
+returns-in-Ok-clause-ok c r =
     let old = c.args.ranks.now.keys in
     sym (stored c.insert.new.self.keys r) ∙ c.in-Ok.ensures.updates.0 r
     ∙ ap (λ b. cond b true (found_in old r)) (ap is_eq (derived c.args.rank r))

@@ -8,7 +8,7 @@ use Rattle.validation.specs.declared.verdict.Verdict.TheVariants.{Accepted, Conf
 use Rattle.validation.specs.Verdict.{verdict_of, Leaves}
 use Rattle.backjump.specs.Walk.{nodes_of, search_of, load, Moves}
 use Rattle.backjump.specs.declared.walk.Turn.TheVariants.{Try, Back}
-use Rattle.backjump.specs.declared.walk.Step.TheVariants.{On}
+use Rattle.backjump.specs.declared.walk.WalkStep.TheVariants.{On}
 use Rattle.backjump.proofs.Moves.{with_state, choose-kept, choose-failed}
 use Rattle.backjump.proofs.walk.Walk.choose.Goals as goal
 
@@ -52,9 +52,9 @@ returns-in_ok-learn-in-Conflict-clause-step g c visited at =
     let top : c.top.result ≡ at.at.point.node.var = c.top.ensures (nodes_of at.at.outer) at.at.point.node at.at.held.nodes in
     let failed = refused (conflict p w.state.trail (choice_of c.top.result n)) set (sym c.in_ok-choose_open.ensures.verdict ∙ c.in-Conflict.is) in
     let same = subst (λ v. Leaves p w.state c.choose_open.new.self (choice_of c.top.result n) v) c.in-Conflict.is c.in_ok-choose_open.ensures.leaves in
-    let trail = c.trail.ensures ∙ ap (λ x. x.trail) same in
+    let trail = c.trail.ensures.trail ∙ ap (λ x. x.trail) same in
     subst (λ x. Moves g.G.Guide.recalls s (with_state w x c.saturating_add-self.result c.learn.new.self) (visited + 1) (4 + load w Try) (On (Back set))) (sym same)
     (choose-failed g.G.Guide.recalls s w visited n c.saturating_add-self.result set c.learn.new.self at c.saturating_add-self.ensures
     (subst (λ v. conflict p w.state.trail (choice_of v n) ≡ Some set) top failed)
     (subst (λ l. g.G.Guide.recalls c.learn.new.self (set ∷ at.at.met) l) trail
-    (c.in_ok-learn-in-Conflict.ensures at.at.met (subst (λ l. g.G.Guide.recalls w.guide at.at.met l) (sym trail) at.at.held.recalled))))
+    (c.in_ok-learn-in-Conflict.ensures.ok at.at.met (subst (λ l. g.G.Guide.recalls w.guide at.at.met l) (sym trail) at.at.held.recalled))))

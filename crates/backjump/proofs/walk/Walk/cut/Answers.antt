@@ -21,4 +21,4 @@ returns g c s visited at =
     (λ none. c.if-depth-eq0.false (c.depth.ensures.count ∙ none)) (c.undo.ensures.stands s.problem) c.undo.ensures.trail
     (λ outer node e met front d same new recalled.
     let top = sym (c.top.ensures outer node e) in
-    c.in_ok-taken_back.ensures met front d (same ∙ top) (subst (λ v. value_in front v ≡ None) top new) recalled) at
+    c.in_ok-taken_back.ensures.ok met front d (same ∙ top) (subst (λ v. value_in front v ≡ None) top new) recalled) at

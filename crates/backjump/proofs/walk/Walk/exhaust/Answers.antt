@@ -16,6 +16,6 @@ returns g c =
     h (search_of p g.G.Guide.picks c.args.limit) visited
     (exhaust-cut g.G.Guide.recalls (search_of p g.G.Guide.picks c.args.limit) c.args.self.now visited c.depth.result c.saturating_add-self.result c.in_ok-set.set c.learn.new.self c.depth.ensures.count
     (sym c.gives_up.ensures ∙ c.if-gives_up.false) c.saturating_add-self.ensures at (c.in_ok-set.ensures p visited at.met at.point at.outer at.held at.prefix_is)
-    (subst (λ l. g.G.Guide.recalls c.learn.new.self (c.in_ok-set.set ∷ at.met) l) c.trail.ensures
-    (c.in_ok-learn.ensures at.met (subst (λ l. g.G.Guide.recalls c.args.self.now.guide at.met l) (sym c.trail.ensures) at.held.recalled)))))
+    (subst (λ l. g.G.Guide.recalls c.learn.new.self (c.in_ok-set.set ∷ at.met) l) c.trail.ensures.trail
+    (c.in_ok-learn.ensures.ok at.met (subst (λ l. g.G.Guide.recalls c.args.self.now.guide at.met l) (sym c.trail.ensures.trail) at.held.recalled)))))
     c.cut.ensures

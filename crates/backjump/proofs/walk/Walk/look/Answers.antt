@@ -34,6 +34,6 @@ returns-in_ok-grow-in-Some g c visited at =
     let w = c.args.self.now in
     look-some g.G.Guide.recalls (search_of p g.G.Guide.picks c.args.limit) lawful g.met.G.Guide.is_guide w visited c.in-Some.var c.in_ok-values-in-Some.values c.grow.new.self c.push.new.self at
     (sym (c.in-Some.ensures p at.met lawful at.held.stands at.held.recalled))
-    (c.in_ok-values-in-Some.ensures ∙ ap (p.order c.in-Some.var) c.trail.ensures)
+    (c.in_ok-values-in-Some.ensures ∙ ap (p.order c.in-Some.var) c.trail.ensures.trail)
     c.in_ok-grow-in-Some.ensures.ok
     (c.in_ok-push-in-Some.ensures.ok ∙ ap (λ s. w.failed ++ s ∷ []) c.new.ensures)

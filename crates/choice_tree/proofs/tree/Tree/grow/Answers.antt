@@ -1,7 +1,7 @@
 -- a new node stands behind those that have given
 use Rattle.std.proofs.Common.{sym, subst, arith}
 use Rattle.choice_tree.specs.Tree.{fresh, IsGrown, HasGiven}
-use Rattle.choice_tree.proofs.Path.{grown-push}
+use Rattle.choice_tree.proofs.NodePaths.{grown-push}
 use Rattle.choice_tree.proofs.tree.Tree.grow.Goals as goal
 
 pub invariant_of-self-2 : goal.invariant_of-self-2

@@ -1,26 +1,19 @@
--- the variable has its new count, and its new rank unless it is chosen
-use Rattle.std.proofs.Common.{◌||◌, not, ◌&&◌, is_some, sym, ap, ◌∙◌}
-use Rattle.std.proofs.lemmas.Bool.{false≢true}
-use Rattle.std.proofs.lemmas.Result.{on_ok_weaker}
-use Rattle.count_search.specs.Ranks.{has_rank, same_rank, rank_of, is_rank_of}
-use Rattle.count_search.proofs.Scores.{is-free, counted-raised, scored-raised, scored-chosen-raised}
+-- the variable has its next score, and its old rank is out
+use Rattle.std.proofs.Common.{not, ◌&&◌, refl, sym, ap, ◌∙◌, arith}
+use Rattle.count_search.specs.Ranks.{has_rank, same_rank, raised}
+use Rattle.choice_problem.proofs.InfallibleCalls.{ok-of}
+use Rattle.count_search.proofs.Scores.{between-alike, has-entry, raised-full, raised-more}
 use Rattle.count_search.proofs.counting.Counting.raise.Goals as goal
 
-pub returns-then-chosen : goal.returns-then-chosen
-returns-then-chosen c scores trail are chosen =
-    scored-chosen-raised c.args.self.now.scores c.args.self.now.ranks.keys scores trail are c.set.new.self c.args.v
-    (λ none. false≢true (sym (ap is_some none) ∙ chosen ∙ c.if-chosen.true))
-    (counted-raised c.args.self.now.scores c.args.self.now.ranks.keys scores trail are c.set.new.self c.args.v c.get-before.result c.unwrap_or.result c.saturating_add-after.result
-    c.get-before.ensures c.unwrap_or.ensures c.saturating_add-after.ensures c.in_ok-set.ensures.ok).0
+pub returns-then-score : goal.returns-then-score
+returns-then-score c scores next trail rises are =
+    let s = c.args.self.now in
+    let full = sym (are.counted c.args.v) ∙ sym c.score-score.ensures ∙ c.if-score.true in
+    between-alike s.scores s.ranks.keys scores (raised c.args.v scores) next next trail (raised-full c.args.v scores full) (λ u. refl) are
 
 pub returns : goal.returns
-returns c =
-    on_ok_weaker c.put.result
-    (λ put scores trail are chosen.
-    let counted = counted-raised c.args.self.now.scores c.args.self.now.ranks.keys scores trail are c.set.new.self c.args.v c.get-before.result c.unwrap_or.result c.saturating_add-after.result
-    c.get-before.ensures c.unwrap_or.ensures c.saturating_add-after.ensures c.in_ok-set.ensures.ok in
-    scored-raised c.args.self.now.scores c.args.self.now.ranks.keys scores trail are c.args.v c.drop_ranked.new.ranks.keys
-    (λ r. c.drop_ranked.ensures r ∙ ap (λ o. not (is_rank_of o c.args.v r) && has_rank c.args.self.now.ranks.keys r) c.get-before.ensures)
-    c.set.new.self c.put.new.ranks.keys (is-free trail c.args.v (chosen ∙ c.if-chosen.false)) counted.0
-    (λ r. put r ∙ ap (λ x. same_rank x r || has_rank c.drop_ranked.new.ranks.keys r) (c.rank_of.ensures ∙ ap (λ n. rank_of n c.args.v) counted.1)))
-    c.put.ensures
+returns c scores next trail rises are =
+    let s = c.args.self.now in
+    raised-more s.scores s.ranks.keys scores next trail are c.args.v c.score-score.result c.set.new.self c.take_out.new.ranks.keys c.score-score.ensures (omega (arith, c.if-score.false)) rises
+    (ok-of c.set.result c.set.ensures.ok c.set.ensures.absent (has-entry s.scores s.ranks.keys scores next trail are c.args.v rises))
+    (λ r. c.take_out.ensures r ∙ ap (λ x. not (same_rank x r) && has_rank s.ranks.keys r) c.rank_of.ensures)

@@ -1,22 +1,26 @@
 -- each variable of the set is met once more
-use Rattle.std.proofs.Common.{◌≡◌, true, ◌∷◌, take, length, sym, ap, subst, arith}
-use Rattle.std.proofs.lemmas.List.{take_all}
+use Rattle.std.proofs.Common.{◌≡◌, true, List, ◌∷◌, subst}
+use Rattle.common_laws.specs.Small.{on-err}
+use Rattle.qualified_goals.specs.declared.variable.Var.{Var}
 use Rattle.choice_problem.specs.ConflictSet.{is_rising}
 use Rattle.choice_problem.specs.Guide.{score}
 use Rattle.count_search.specs.Ranks.{AreScored, raised_all}
-use Rattle.count_search.proofs.Scores.{raised-set, scored-alike, scored-next}
+use Rattle.count_search.proofs.Scores.{raised-set, scored-alike}
 use Rattle.count_search.proofs.counting.CountingGuide.learn.Goals as goal
 
-pub loop-v-preserved : goal.loop-v-preserved
-loop-v-preserved c met are =
+pub returns-clause-ok : goal.returns-clause-ok
+returns-clause-ok c met are =
     let set = c.args.set.now in
-    scored-next c.raise.new.self.scores c.raise.new.self.ranks.keys c.vars-v-items.result.now set c.loop-v.v-index _ (score met) c.args.trail.now c.vars-v-items.ensures.set c.loop-v-test.true
-    (c.in_ok-raise.ensures (raised_all (take c.loop-v.v-index set) (score met)) c.args.trail.now (c.loop-v.invariant met are) (sym c.has.ensures))
+    let new = c.raise_all.new.self in
+    scored-alike new.scores new.ranks.keys (raised_all set (score met)) (score (set ∷ met)) c.args.trail.now
+    (λ u. raised-set set met u (subst (λ l. is_rising l ≡ true) c.vars-vars.ensures.set c.vars-vars.ensures.rising))
+    (subst (λ l. AreScored new.scores new.ranks.keys (raised_all l (score met)) c.args.trail.now) c.vars-vars.ensures.set
+    (c.raise_all.ensures (score met) c.args.trail.now (c.in_ok-prepare_all.ensures.ok (score met) are)))
 
-pub returns : goal.returns
-returns c met are =
-    let set = c.args.set.now in
-    let all = take_all c.loop-v.v-index set (omega (arith, ap length c.vars-v-items.ensures.set)) in
-    scored-alike c.loop-v.self.scores c.loop-v.self.ranks.keys (raised_all set (score met)) (score (set ∷ met)) c.args.trail.now
-    (λ u. raised-set set met u (subst (λ l. is_rising l ≡ true) c.vars-v-items.ensures.set c.vars-v-items.ensures.rising))
-    (subst (λ l. AreScored c.loop-v.self.scores c.loop-v.self.ranks.keys (raised_all l (score met)) c.args.trail.now) all (c.loop-v.invariant met are))
+pub returns-in_err-prepare_all-clause-err : goal.returns-in_err-prepare_all-clause-err
+returns-in_err-prepare_all-clause-err c =
+    let old = c.args.self.now in
+    let new = c.prepare_all.new.self in
+    on-err c.from_residual.result
+    ((met : List (List Var)) → AreScored old.scores old.ranks.keys (score met) c.args.trail.now → AreScored new.scores new.ranks.keys (score met) c.args.trail.now)
+    (λ met are. c.in_err-prepare_all.ensures.err (score met) are)

@@ -1,4 +1,4 @@
--- Sets without a variable, and trails cut to a set.
+-- Shared: sets without a variable, and trails cut to a set.
 use Rattle.std.proofs.Common.{◌≡◌, ℕ, Bool, true, false, cond, not, List, [], ◌∷◌, ◌++◌, map, Option, Some, None, refl, sym, ap, ◌∙◌, subst}
 use Rattle.std.specs.List.{Contains, AllZip}
 use Rattle.std.proofs.lemmas.Bool.{false≢true, not-true}

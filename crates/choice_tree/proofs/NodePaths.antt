@@ -1,4 +1,4 @@
--- Lists by their last items, and nodes of which each but the last has given a value.
+-- Shared: lists by their last items, and nodes of which each but the last has given a value.
 use Rattle.std.proofs.Common.{◌≡◌, ◌≢◌, ℕ, Option, Some, None, ◌-◌, ◌<◌, ◌≤◌, List, [], ◌∷◌, ◌++◌, length, get_or, refl, sym, ap, ◌∙◌, subst, arith, length-append}
 use Rattle.std.specs.Prelude.{slice_set, MatchOption}
 use Rattle.std.specs.List.{All}
@@ -7,7 +7,7 @@ use Rattle.std.proofs.Math.ListN.{get_or-append}
 use Rattle.std.proofs.lemmas.List.Elements.{All-push, All-nil}
 use Rattle.choice_problem.specs.Trail.{choice_of}
 use Rattle.choice_problem.proofs.TrailEnds.{snoc-same}
-use Rattle.choice_tree.specs.declared.tree.Node.{Node}
+use Rattle.choice_tree.specs.declared.tree.TreeNode.{TreeNode}
 use Rattle.choice_tree.specs.Tree.{stepped, values_left, choice_at, Gives, GivesNext, HasGiven, IsGrown}
 
 -- a list has a last item, or is empty
@@ -19,31 +19,31 @@ pub by-last : {X : Type 0} (xs : List X) → ByLast xs
 by-last [] = none refl
 by-last (x ∷ xs) = elim (by-last xs) [ none e ↦ last [] x (ap (λ l. x ∷ l) e) | last front y e ↦ last (x ∷ front) y (ap (λ l. x ∷ l) e) ]
 
-abbrev GaveOne : Node → Type 0
+abbrev GaveOne : TreeNode → Type 0
 GaveOne node = 0 < node.given
 
-abbrev IsWithin : Node → Type 0
+abbrev IsWithin : TreeNode → Type 0
 IsWithin node = node.given ≤ length node.values
 
 -- all have given one where the last has and each before it
-all-given : (nodes : List Node) → IsGrown nodes → HasGiven nodes → All GaveOne nodes
+all-given : (nodes : List TreeNode) → IsGrown nodes → HasGiven nodes → All GaveOne nodes
 all-given nodes grown last_given =
     elim (by-last nodes) [
       | none e ↦ subst (All GaveOne) (sym e) (All-nil GaveOne)
       | last front x e ↦ subst (All GaveOne) (sym e) (All-push GaveOne front x (grown.given front x e) (last_given front x e))
     ]
 
-pub grown-push : (nodes : List Node) (node : Node) → IsGrown nodes → HasGiven nodes → IsWithin node → IsGrown (nodes ++ node ∷ [])
+pub grown-push : (nodes : List TreeNode) (node : TreeNode) → IsGrown nodes → HasGiven nodes → IsWithin node → IsGrown (nodes ++ node ∷ [])
 grown-push nodes node grown last_given within = record {
   within = All-push IsWithin nodes node grown.within within;
   given = λ outer last e. subst (All GaveOne) (snoc-same nodes node outer last e).0 (all-given nodes grown last_given);
 }
 
-front-within : (outer : List Node) (node : Node) → All IsWithin (outer ++ node ∷ []) → All IsWithin outer
+front-within : (outer : List TreeNode) (node : TreeNode) → All IsWithin (outer ++ node ∷ []) → All IsWithin outer
 front-within outer node h k d below =
     subst IsWithin (get_or-append outer (node ∷ []) d k below) (h k d (omega (arith, below, length-append outer (node ∷ []))))
 
-pub grown-step : (outer : List Node) (node new : Node) → IsGrown (outer ++ node ∷ []) → IsWithin new → IsGrown (outer ++ new ∷ [])
+pub grown-step : (outer : List TreeNode) (node new : TreeNode) → IsGrown (outer ++ node ∷ []) → IsWithin new → IsGrown (outer ++ new ∷ [])
 grown-step outer node new grown within = record {
   within = All-push IsWithin outer new (front-within outer node grown.within) within;
   given = λ front last e. grown.given front node (ap (λ l. l ++ node ∷ []) (snoc-same outer new front last e).0);
@@ -59,7 +59,7 @@ at-last xs outer x d i e k =
     let at : i ≡ length outer = omega (arith, k, ap length e, length-append outer (x ∷ [])) in
     ap (λ l. get_or l i d) e ∙ ap (λ j. get_or (outer ++ x ∷ []) j d) at ∙ get_or-append_seam outer x [] d
 
-pub grown-set : (nodes : List Node) (old new : Node) (i : ℕ) → nodes ≢ [] → i ≡ length nodes - 1 → old ≡ get_or nodes i old → IsGrown nodes
+pub grown-set : (nodes : List TreeNode) (old new : TreeNode) (i : ℕ) → nodes ≢ [] → i ≡ length nodes - 1 → old ≡ get_or nodes i old → IsGrown nodes
     → (IsWithin old → IsWithin new) → IsGrown (slice_set nodes i new)
 grown-set nodes old new i some k is grown within =
     elim (by-last nodes) [
@@ -72,9 +72,9 @@ grown-set nodes old new i some k is grown within =
     ]
 
 -- what the last node does is what the path does
-pub next-of : (nodes : List Node) (old new : Node) (i : ℕ) (r : Option ℕ) → i ≡ length nodes - 1 → old ≡ get_or nodes i old
+pub next-of : (nodes : List TreeNode) (old new : TreeNode) (i : ℕ) (r : Option ℕ) → i ≡ length nodes - 1 → old ≡ get_or nodes i old
     → MatchOption r ((values_left old ≡ []) × (new ≡ old)) (Gives old new)
-    → (outer : List Node) (node : Node) → nodes ≡ outer ++ node ∷ []
+    → (outer : List TreeNode) (node : TreeNode) → nodes ≡ outer ++ node ∷ []
     → MatchOption r ((values_left node ≡ []) × (slice_set nodes i new ≡ nodes)) (GivesNext outer node (slice_set nodes i new))
 next-of nodes old new i None k is h outer node e =
     let old_is : old ≡ node = is ∙ at-last nodes outer node old i e k in (
