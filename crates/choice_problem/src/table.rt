@@ -14,7 +14,7 @@ pub struct Table {
     entries: BTreeMap<Var, u64>,
 }
 
-// Written out, so that it is proved once and not at each exit of each function that owns one.
+// Explicit, so that it is proved once: a derived one is expanded at each exit.
 impl Drop for Table {
     fn drop(self) {
         let Table { entries: _entries } = self;

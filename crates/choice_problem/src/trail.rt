@@ -23,7 +23,7 @@ pub struct Trail {
     instances: Lists<u64, Choice>,
 }
 
-// Written out, so that it is proved once and not at each exit of each function that owns one.
+// Explicit, so that it is proved once: a derived one is expanded at each exit.
 impl Drop for Trail {
     fn drop(self) {
         let Trail {

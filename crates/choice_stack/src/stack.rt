@@ -49,7 +49,7 @@ pub struct Stack {
     goals: Goals,
 }
 
-// Written out, so that it is proved once and not at each exit of each function that owns one.
+// Explicit, so that it is proved once: a derived one is expanded at each exit.
 impl Drop for Stack {
     fn drop(self) {
         let Stack {

@@ -28,7 +28,7 @@ pub struct Counting {
     ranks: BTreeSet<Rank>,
 }
 
-// Written out, so that it is proved once and not at each exit of each function that owns one.
+// Explicit, so that it is proved once: a derived one is expanded at each exit.
 impl Drop for Counting {
     fn drop(self) {
         let Counting {

@@ -13,7 +13,7 @@ pub(crate) struct Ring {
     pub(crate) back: IndexSet<Var>,
 }
 
-// Written out, so that it is proved once and not at each exit of each function that owns one.
+// Explicit, so that it is proved once: a derived one is expanded at each exit.
 impl Drop for Ring {
     fn drop(self) {
         let Ring {

@@ -16,7 +16,7 @@ pub(crate) struct Side {
     pub(crate) place: usize,
 }
 
-// Written out, so that it is proved once and not at each exit of each function that owns one.
+// Explicit, so that it is proved once: a derived one is expanded at each exit.
 impl Drop for Side {
     fn drop(self) {
         let Side {

@@ -29,7 +29,7 @@ pub struct Links {
     chains: Chains,
 }
 
-// Written out, so that it is proved once and not at each exit of each function that owns one.
+// Explicit, so that it is proved once: a derived one is expanded at each exit.
 impl Drop for Links {
     fn drop(self) {
         let Links {

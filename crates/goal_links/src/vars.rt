@@ -14,7 +14,7 @@ pub(crate) struct Vars {
     keys: IndexSet<Var>,
 }
 
-// Written out, so that it is proved once and not at each exit of each function that owns one.
+// Explicit, so that it is proved once: a derived one is expanded at each exit.
 impl Drop for Vars {
     fn drop(self) {
         let Vars { keys: _keys } = self;

@@ -58,7 +58,7 @@ pub struct MemFolder {
     ghost bounded: { faults ≤ ceiling_of fail_at },
 }
 
-// Written out, so that it is proved once and not at each exit of each function that owns one.
+// Explicit, so that it is proved once: a derived one is expanded at each exit.
 impl Drop for MemFolder {
     fn drop(self) {
         let MemFolder {

@@ -15,7 +15,7 @@ pub(crate) struct Listings {
     pub by_dir: IndexMap<Text, List<Name>>,
 }
 
-// Written out, so that it is proved once and not at each exit of each function that owns one.
+// Explicit, so that it is proved once: a derived one is expanded at each exit.
 impl Drop for Listings {
     fn drop(self) {
         let Listings { by_dir: _by_dir } = self;
