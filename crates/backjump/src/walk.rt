@@ -54,7 +54,7 @@ pub struct Walk<G> {
     guide: G,
 }
 
-// Written out, so that it is proved once: a derived one stands again at each place where a walk is let go.
+// Explicit, so that it is proved once: a derived one is expanded at each exit.
 impl<G: Drop> Drop for Walk<G> {
     fn drop(self) {
         let Walk {
