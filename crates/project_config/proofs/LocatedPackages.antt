@@ -14,7 +14,7 @@ use Rattle.project_file.specs.Read.{IsProject}
 use Rattle.project_file.specs.declared.read.ProjectText.{ProjectText}
 use Rattle.project_file.proofs.ProjectFiles.{refused-behind}
 use Rattle.project_paths.specs.Local.{local_files, sought}
-pub use Rattle.project_paths.proofs.Answered.{passed-on}
+pub use Rattle.project_paths.proofs.EntryAnswers.{passed-on}
 use Rattle.project_config.specs.Project.{AreSaid, FilesSay, IsFolderProject, first_too_large, is_implicit, large_or, located, project_files, texts_among, too_large, unless_large, with_locals, with_text}
 use Rattle.project_config.specs.declared.files.FilesProject.{FilesProject}
 use Rattle.project_config.specs.declared.project.FolderProject.{FolderProject}

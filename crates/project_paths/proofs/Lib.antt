@@ -1,8 +1,9 @@
 pub mod Kept
 pub mod Pieces
 pub mod Texts
-pub mod Answered
+pub mod EntryAnswers
 pub mod Paths
 pub mod Listed
 pub mod Literal
+pub mod LookedUp
 pub mod Seen

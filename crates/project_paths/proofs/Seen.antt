@@ -1,7 +1,7 @@
 -- What spots turn out to be, one name further, and what is found there.
 use Rattle.std.proofs.Common.{◌≡◌, Bool, true, false, cond, List, [], ◌∷◌, ◌++◌, ◌&&◌, length, map, Option, Some, None, refl, sym, ap, ◌∙◌, subst, append-nil, arith}
 use Rattle.std.specs.Prelude.{filter, flat_map, is_some, not, ◌==◌, Result, Ok, Err, IfOk, IfSome}
-use Rattle.std.proofs.lemmas.Bool.{and_parts, false≢true}
+use Rattle.std.proofs.lemmas.Bool.{and_parts, false≢true, not-true}
 use Rattle.common_laws.specs.Small.{if_some, some_at}
 use Rattle.plan_types.specs.Refusal.{Answers, Settles}
 use Rattle.plan_types.specs.declared.project.ProjectEntry.{ProjectEntry}
@@ -13,7 +13,7 @@ use Rattle.project_paths.specs.Entries.{first_crowded, is_crowded, judged, least
 use Rattle.project_paths.specs.Found.{Finds, cabal_in, files_of, found_at, found_files, has_files, is_local, is_local_file}
 use Rattle.project_paths.specs.Listings.{names_in}
 use Rattle.project_paths.specs.Places.{below, is_matched, names_at, path_in, place_in}
-use Rattle.project_paths.specs.Spots.{Leads, dir_of, directory, is_literal, path_of, plain_file, seen, standing, unless_empty}
+use Rattle.project_paths.specs.Spots.{Leads, dir_of, directory, is_cabal, is_literal, is_looked_up, path_of, plain_file, seen, standing, unless_empty}
 use Rattle.project_paths.specs.declared.found.FoundFiles.{FoundFiles}
 use Rattle.project_paths.specs.declared.places.FolderPlace.{FolderPlace}
 use Rattle.project_paths.specs.declared.spots.Spot.{Spot}
@@ -75,19 +75,17 @@ abbrev Alike : Bool → Files → Spot → List Bytes → Type 0
 Alike folders files spot found = Finds files folders spot (found_files (path_of spot) found)
 
 -- the spot is a local file itself
-pub finds-file : (folders : Bool) (files : Files) (spot : Spot) → is_local_file files folders spot ≡ true → Alike folders files spot (path_of spot ∷ [])
+pub finds-file : (folders : Bool) (files : Files) (spot : Spot) → is_local_file folders spot ≡ true → Alike folders files spot (path_of spot ∷ [])
 finds-file folders files (Listed place) h tree = by place.folder refl h
   where
     by : (folder : Bool) → place.folder ≡ folder → not folder && is_local folders place.path ≡ true
         → filter has_files (found_files place.path (place.path ∷ []) ∷ []) ≡ filter has_files (record { path = place.path; files = files_of folders place (names_at files place) } ∷ [])
     by true f h = absurd (false≢true h)
     by false f h = ap (λ fs. filter has_files (found_files place.path fs ∷ [])) (sym (ap (λ t. cond t (cabal_in place.path (names_at files place)) (cond (is_local folders place.path) (place.path ∷ []) [])) f ∙ ap (λ t. cond t (place.path ∷ []) []) h))
-finds-file folders files (Literal path) h tree =
-    let both = and_parts (is_local folders path) (is_some (file_at files path)) h in
-    sym (ap (λ t. filter has_files (map (found_at files folders) (cond t (plain_file path ∷ []) (unless_empty path (names_in files path))))) both.1 ∙ ap (λ t. filter has_files (found_files path (cond t (path ∷ []) []) ∷ [])) both.0)
+finds-file folders files (Literal path) h tree = absurd (false≢true h)
 
 -- the spot is no directory and no local file
-pub finds-none : (folders : Bool) (files : Files) (spot : Spot) → is_local_file files folders spot ≡ false → dir_of spot ≡ None → Alike folders files spot []
+pub finds-none : (folders : Bool) (files : Files) (spot : Spot) → is_local_file folders spot ≡ false → dir_of spot ≡ None → Alike folders files spot []
 finds-none folders files (Listed place) h is tree = by place.folder refl h is
   where
     by : (folder : Bool) → place.folder ≡ folder → not folder && is_local folders place.path ≡ false → cond folder (Some place.path) None ≡ None
@@ -97,8 +95,8 @@ finds-none folders files (Listed place) h is tree = by place.folder refl h is
 finds-none folders files (Literal path) h is tree = absurd (cc is)
 
 -- the spot may be a directory
-pub finds-in : (folders : Bool) (files : Files) (spot : Spot) (dir : Bytes) → is_local_file files folders spot ≡ false → dir_of spot ≡ Some dir → Alike folders files spot (cabal_in dir (names_in files dir))
-finds-in folders files (Listed place) dir h is tree = by place.folder refl is
+pub finds-in : (folders : Bool) (files : Files) (spot : Spot) (dir : Bytes) → is_looked_up spot ≡ true → is_local_file folders spot ≡ false → dir_of spot ≡ Some dir → Alike folders files spot (cabal_in dir (names_in files dir))
+finds-in folders files (Listed place) dir looked h is tree = by place.folder refl is
   where
     by : (folder : Bool) → place.folder ≡ folder → cond folder (Some place.path) None ≡ Some dir
         → filter has_files (found_files place.path (cabal_in dir (names_in files dir)) ∷ []) ≡ filter has_files (record { path = place.path; files = files_of folders place (names_at files place) } ∷ [])
@@ -107,35 +105,38 @@ finds-in folders files (Listed place) dir h is tree = by place.folder refl is
         ap (λ fs. filter has_files (found_files place.path fs ∷ [])) (ap (λ d. cabal_in d (names_in files d)) (sym same)
         ∙ sym (ap (λ t. cond t (cabal_in place.path (cond t (names_in files place.path) [])) (cond (is_local folders place.path) (place.path ∷ []) [])) f))
     by false f is = absurd (cc is)
-finds-in folders files (Literal path) dir h is tree =
-    ap (λ d. filter has_files (found_files path (cabal_in d (names_in files d)) ∷ [])) (sym same) ∙ by (is_some (file_at files path)) refl h
+finds-in folders files (Literal path) dir looked h is tree =
+    ap (λ d. filter has_files (found_files path (cabal_in d (names_in files d)) ∷ [])) (sym same) ∙ by (is_some (file_at files path)) refl
   where
     same : path ≡ dir
     same = cc is
 
-    and-true : (a : Bool) → (a && true) ≡ false → a ≡ false
-    and-true true h = h
-    and-true false h = refl
+    and-none : (a : Bool) → (a && false) ≡ false
+    and-none true = refl
+    and-none false = refl
+
+    not-local : is_local folders path ≡ false
+    not-local = ap (λ t. not folders && t) (not-true (is_cabal path) looked) ∙ and-none (not folders)
 
     empty : (names : List Name) → names_in files path ≡ names → filter has_files (found_files path (cabal_in path names) ∷ []) ≡ filter has_files (map (found_at files folders) (unless_empty path names))
     empty [] e = refl
     empty (n ∷ ns) e = ap (λ l. filter has_files (found_files path (cabal_in path l) ∷ [])) (sym e)
 
-    by : (t : Bool) → is_some (file_at files path) ≡ t → is_local folders path && t ≡ false
+    by : (t : Bool) → is_some (file_at files path) ≡ t
         → filter has_files (found_files path (cabal_in path (names_in files path)) ∷ []) ≡ filter has_files (map (found_at files folders) (cond t (plain_file path ∷ []) (unless_empty path (names_in files path))))
-    by true t h =
+    by true t =
         ap (λ l. filter has_files (found_files path (cabal_in path l) ∷ [])) (none-in-file files path tree t)
-        ∙ sym (ap (λ b. filter has_files (found_files path (cond b (path ∷ []) []) ∷ [])) (and-true (is_local folders path) h))
-    by false t h = empty (names_in files path) refl
+        ∙ sym (ap (λ b. filter has_files (found_files path (cond b (path ∷ []) []) ∷ [])) not-local)
+    by false t = empty (names_in files path) refl
 
 module _ (tells : Option Files) (folders : Bool) (spot : Spot) (dir : Bytes) (is : dir_of spot ≡ Some dir) where
   -- what is found in its directory is found at a spot
-  pub found-spot : {E : Type 0} → IfSome tells (λ files. is_local_file files folders spot ≡ false) → (result : Result (List Bytes) E) → IfSome tells (λ files. IfOk result (λ found. found ≡ cabal_in dir (names_in files dir)))
-      → IfSome tells (λ files. IfOk result (Alike folders files spot))
-  found-spot other (Err e) h = if_some _ tells (λ files t. tt)
-  found-spot other (Ok found) h = if_some _ tells (λ files t.
+  pub found-spot : {E : Type 0} → is_looked_up spot ≡ true → is_local_file folders spot ≡ false → (result : Result (List Bytes) E)
+      → IfSome tells (λ files. IfOk result (λ found. found ≡ cabal_in dir (names_in files dir))) → IfSome tells (λ files. IfOk result (Alike folders files spot))
+  found-spot looked other (Err e) h = if_some _ tells (λ files t. tt)
+  found-spot looked other (Ok found) h = if_some _ tells (λ files t.
       subst (Alike folders files spot) (sym (some_at (λ files. found ≡ cabal_in dir (names_in files dir)) tells files t h))
-      (finds-in folders files spot dir (some_at (λ files. is_local_file files folders spot ≡ false) tells files t other) is))
+      (finds-in folders files spot dir looked other is))
 
 -- ---- what an entry comes to
 

@@ -6,7 +6,7 @@ use Rattle.outside_folder.specs.Files.{Bytes, Files}
 use Rattle.project_paths.specs.Entries.{refusal_of}
 use Rattle.project_paths.specs.Local.{local_files, no_packages}
 use Rattle.project_paths.specs.Patterns.{pattern_of}
-use Rattle.project_paths.specs.Spots.{directory, is_literal, plain_file, standing}
+use Rattle.project_paths.specs.Spots.{directory, is_literal, is_taken, plain_file, standing}
 use Rattle.project_paths.specs.Wildcards.{matches}
 
 a_directory : pattern_of (codes "./a/b/") ≡ Some (record { names = codes "a" ∷ codes "b" ∷ []; folders = true })
@@ -44,6 +44,12 @@ a_literal = refl
 
 no_literal : is_literal (codes "p*") ≡ false
 no_literal = refl
+
+a_directory_taken : is_taken (codes "p") ≡ true
+a_directory_taken = refl
+
+a_file_looked_up : is_taken (codes "p.cabal") ≡ false
+a_file_looked_up = refl
 
 a_file_stands : standing files (codes "a/p.cabal") ≡ plain_file (codes "a/p.cabal") ∷ []
 a_file_stands = refl

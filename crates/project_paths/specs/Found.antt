@@ -1,9 +1,6 @@
 -- The local files at the places of a pattern.
-use Rattle.std.specs.Prelude.{◌≡◌, Bool, true, false, ◌&&◌, ◌==◌, not, if◌then◌else◌, nat_eq, List, [], ◌∷◌, length, codes, map, filter, is_some, IsTrue}
-use Rattle.std.specs.List.{ends_with}
-use Rattle.outside_folder.specs.Files.{Bytes, Files, file_at, is_tree}
-use Rattle.outside_folder.specs.declared.calls.Content.{Content}
-use Rattle.outside_folder.specs.declared.calls.Content.TheVariants.{Missing, TooLarge, Bytes as Holds}
+use Rattle.std.specs.Prelude.{◌≡◌, Bool, false, ◌&&◌, ◌==◌, not, if◌then◌else◌, List, [], ◌∷◌, length, map, filter, IsTrue}
+use Rattle.outside_folder.specs.Files.{Bytes, Files, is_tree}
 use Rattle.outside_folder.specs.declared.folder.Name.{Name}
 use Rattle.project_paths.specs.Places.{names_at, path_in, places}
 use Rattle.project_paths.specs.declared.found.FoundFiles.{FoundFiles}
@@ -11,11 +8,7 @@ use Rattle.project_paths.specs.declared.pattern.Pattern.{Pattern}
 use Rattle.project_paths.specs.declared.places.FolderPlace.{FolderPlace}
 use Rattle.project_paths.specs.declared.spots.Spot.{Spot}
 use Rattle.project_paths.specs.declared.spots.Spot.TheVariants.{Listed, Literal}
-use Rattle.project_paths.specs.Spots.{seen}
-
--- whether a name ends in `.cabal`
-abbrev pub is_cabal : Bytes → Bool
-is_cabal name = ends_with nat_eq name (codes ".cabal")
+use Rattle.project_paths.specs.Spots.{is_cabal, seen}
 
 -- whether it is that of a file
 abbrev pub is_cabal_file : Name → Bool
@@ -54,13 +47,7 @@ found_files path files = record { path = path; files = files }
 abbrev pub Finds : Files → Bool → Spot → FoundFiles → Type 0
 Finds files folders spot found = IsTrue (is_tree files) → filter has_files (found ∷ []) ≡ filter has_files (map (found_at files folders) (seen files spot))
 
--- whether a spot is a local file itself
-abbrev pub is_local_file : Files → Bool → Spot → Bool
-is_local_file files folders (Listed place) = not place.folder && is_local folders place.path
-is_local_file files folders (Literal path) = is_local folders path && is_some (file_at files path)
-
--- whether a read found a file
-abbrev pub is_there : Content → Bool
-is_there Missing = false
-is_there TooLarge = true
-is_there (Holds bytes) = true
+-- whether a spot is a local file itself, which a listing told
+abbrev pub is_local_file : Bool → Spot → Bool
+is_local_file folders (Listed place) = not place.folder && is_local folders place.path
+is_local_file folders (Literal path) = false

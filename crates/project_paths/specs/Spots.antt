@@ -1,6 +1,6 @@
 -- Where the names of a pattern lead, before and after it was looked what stands there.
-use Rattle.std.specs.Prelude.{◌≡◌, ℕ, Bool, true, false, ◌&&◌, ◌==◌, not, if◌then◌else◌, List, [], ◌∷◌, length, flat_map, Option, Some, None, is_some, IsTrue}
-use Rattle.std.specs.List.{list_all, list_any}
+use Rattle.std.specs.Prelude.{◌≡◌, ℕ, Bool, true, false, ◌&&◌, ◌==◌, not, if◌then◌else◌, nat_eq, List, [], ◌∷◌, length, codes, flat_map, Option, Some, None, is_some, IsTrue}
+use Rattle.std.specs.List.{ends_with, list_all, list_any}
 use Rattle.outside_folder.specs.Files.{Bytes, Files, file_at, is_tree}
 use Rattle.outside_folder.specs.declared.folder.Name.{Name}
 use Rattle.project_paths.specs.Listings.{names_in}
@@ -50,6 +50,19 @@ is_plain b = not (b == 42) && not (b == 47) && not (b == 0)
 -- whether a name of a pattern matches itself alone
 abbrev pub is_literal : Bytes → Bool
 is_literal name = not (length name == 0) && list_all is_plain name
+
+-- whether a name ends in `.cabal`
+abbrev pub is_cabal : Bytes → Bool
+is_cabal name = ends_with nat_eq name (codes ".cabal")
+
+-- whether a name of a pattern is taken as it stands: it matches itself alone, and isn't that of a `.cabal` file
+abbrev pub is_taken : Bytes → Bool
+is_taken name = is_literal name && not (is_cabal name)
+
+-- whether a spot may be a `.cabal` file only where a listing told so
+abbrev pub is_looked_up : Spot → Bool
+is_looked_up (Listed place) = true
+is_looked_up (Literal path) = not (is_cabal path)
 
 -- where the files make a tree, spots turn out to be these places
 abbrev pub Leads : Files → List Spot → List FolderPlace → Type 0

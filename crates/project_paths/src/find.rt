@@ -17,8 +17,9 @@ use std::collections::BTreeSet;
 
 /// The paths of the local files that the entries of a project give, in byte order, each once; or the first refusal.
 ///
-/// Where there is no `cabal.project`, the `.cabal` files in the root come in front, of which there may be none. No directory is
-/// listed twice, and none for a name without a star that is looked for in it.
+/// Where there is no `cabal.project`, the `.cabal` files in the root come in front, of which there may be none. No
+/// directory is listed twice, and no file is read. A directory is listed for a name with a star, and for one that ends
+/// in `.cabal`.
 pub fn find_packages<F: Folder>(
     alloc: Global,
     project: &Project,

@@ -1,16 +1,16 @@
 // The local files to which a pattern leads.
-ghost use Rattle.std.specs.Prelude.{◌≡◌, ◌∷◌, [], ◌++◌, ◌&&◌, map, filter, not, is_some, IfOk, IfSome, OnOk, IsErrOf, IsTrue};
+ghost use Rattle.std.specs.Prelude.{◌≡◌, ◌∷◌, [], ◌++◌, ◌&&◌, map, filter, not, IfOk, IfSome, OnOk, IsErrOf, IsTrue};
 ghost use Rattle.outside_folder.specs.Calls.{Leaves};
-ghost use Rattle.outside_folder.specs.Files.{file_at, is_tree};
+ghost use Rattle.outside_folder.specs.Files.{is_tree};
 ghost use Rattle.project_paths.specs.Listings.{Agree, names_in};
-ghost use Rattle.project_paths.specs.Found.{Finds, cabal_in, found_by, found_files, has_files, is_cabal, is_cabal_file, is_local, is_local_file, is_there};
-ghost use Rattle.project_paths.specs.Spots.{is_open, path_of};
+ghost use Rattle.project_paths.specs.Found.{Finds, cabal_in, found_by, found_files, has_files, is_cabal_file, is_local, is_local_file};
+ghost use Rattle.project_paths.specs.Spots.{is_looked_up, is_open, path_of};
 
 use crate::listings::Listings;
 use crate::pattern::Pattern;
 use crate::places::path_in;
-use crate::spots::{Spot, spots};
-use outside_folder::{Content, Folder, Name, Trouble, read_content};
+use crate::spots::{Spot, is_cabal, spots};
+use outside_folder::{Folder, Name, Trouble};
 use plan_types::{List, NoMemory, Text};
 use std::alloc::Global;
 
@@ -50,9 +50,11 @@ fn found_at<F: Folder>(
     listings: &mut Listings,
     folder: &mut F,
 ) -> Result<FoundFiles, Trouble>
-    requires { Agree (F.tells folder.old) listings.old }
+    requires agree { Agree (F.tells folder.old) listings.old }
+    requires looked_up { IsTrue (is_looked_up spot.now) }
     ensures observed { IfSome (F.tells folder.old) (λ files. IfOk result (Finds files folders spot.now)) }
-    ensures tree { IfSome (F.tells folder.old) (λ files. OnOk result (IsTrue (is_open spot.now) → IsTrue (is_tree files))) }
+    ensures tree { IfSome (F.tells folder.old)
+        (λ files. OnOk result (IsTrue (is_open spot.now) → IsTrue (is_tree files))) }
     ensures agree { OnOk result (Agree (F.tells folder.new) listings.new) }
     ensures folder { Leaves F.tells F.faults folder.old folder.new (IsErrOf result Trouble.Failed) }
 {
@@ -68,14 +70,16 @@ fn files_at<F: Folder>(
     listings: &mut Listings,
     folder: &mut F,
 ) -> Result<List<Text>, Trouble>
-    requires { Agree (F.tells folder.old) listings.old }
+    requires agree { Agree (F.tells folder.old) listings.old }
+    requires looked_up { IsTrue (is_looked_up spot.now) }
     ensures observed { IfSome (F.tells folder.old)
         (λ files. IfOk result (λ found. Finds files folders spot.now (found_files (path_of spot.now) found))) }
-    ensures tree { IfSome (F.tells folder.old) (λ files. OnOk result (IsTrue (is_open spot.now) → IsTrue (is_tree files))) }
+    ensures tree { IfSome (F.tells folder.old)
+        (λ files. OnOk result (IsTrue (is_open spot.now) → IsTrue (is_tree files))) }
     ensures agree { OnOk result (Agree (F.tells folder.new) listings.new) }
     ensures folder { Leaves F.tells F.faults folder.old folder.new (IsErrOf result Trouble.Failed) }
 {
-    if is_local_file(alloc, folders, spot, folder)? {
+    if is_local_file(folders, spot) {
         return Ok(only(alloc, spot.path())?);
     }
     match spot.dir() {
@@ -84,43 +88,13 @@ fn files_at<F: Folder>(
     }
 }
 
-// Whether a spot is a local file itself. A path that was taken as it stands is read to find that out.
-fn is_local_file<F: Folder>(
-    alloc: Global,
-    folders: bool,
-    spot: &Spot,
-    folder: &mut F,
-) -> Result<bool, Trouble>
-    ensures observed { IfSome (F.tells folder.old) (λ files. IfOk result (λ yes. yes ≡ is_local_file files folders spot.now)) }
-    ensures tree { IfSome (F.tells folder.old) (λ files. IfOk result (λ yes. IsTrue yes → IsTrue (is_open spot.now) → IsTrue (is_tree files))) }
-    ensures folder { Leaves F.tells F.faults folder.old folder.new (IsErrOf result Trouble.Failed) }
+// Whether a spot is a local file itself.
+fn is_local_file(folders: bool, spot: &Spot) -> bool
+    ensures { result ≡ is_local_file folders spot.now }
 {
     match spot {
-        Spot::Listed(place) => Ok(!place.folder && is_local(folders, &place.path)),
-        Spot::Literal(path) => {
-            if !is_local(folders, path) {
-                return Ok(false);
-            }
-            is_file(alloc, path, folder)
-        }
-    }
-}
-
-fn is_file<F: Folder>(alloc: Global, path: &Text, folder: &mut F) -> Result<bool, Trouble>
-    ensures observed { IfSome (F.tells folder.old) (λ files. IfOk result (λ yes. yes ≡ is_some (file_at files path.now))) }
-    ensures tree { IfSome (F.tells folder.old) (λ files. IsTrue (is_tree files)) }
-    ensures folder { Leaves F.tells F.faults folder.old folder.new (IsErrOf result Trouble.Failed) }
-{
-    let content = read_content(alloc, path.as_str(), folder)?;
-    Ok(is_there(&content))
-}
-
-fn is_there(content: &Content) -> bool
-    ensures { result ≡ is_there content.now }
-{
-    match content {
-        Content::Missing => false,
-        Content::TooLarge | Content::Bytes(_) => true,
+        Spot::Listed(place) => !place.folder && is_local(folders, &place.path),
+        Spot::Literal(_) => false,
     }
 }
 
@@ -145,7 +119,8 @@ fn cabal_at<F: Folder>(
     folder: &mut F,
 ) -> Result<List<Text>, Trouble>
     requires { Agree (F.tells folder.old) listings.old }
-    ensures observed { IfSome (F.tells folder.old) (λ files. IfOk result (λ found. found ≡ cabal_in dir.now (names_in files dir.now))) }
+    ensures observed { IfSome (F.tells folder.old)
+        (λ files. IfOk result (λ found. found ≡ cabal_in dir.now (names_in files dir.now))) }
     ensures tree { IfSome (F.tells folder.old) (λ files. OnOk result (IsTrue (is_tree files))) }
     ensures agree { OnOk result (Agree (F.tells folder.new) listings.new) }
     ensures folder { Leaves F.tells F.faults folder.old folder.new (IsErrOf result Trouble.Failed) }
@@ -171,10 +146,4 @@ fn is_cabal_file(name: &Name) -> bool
     ensures { result ≡ is_cabal_file name.now }
 {
     !name.folder && is_cabal(&name.text)
-}
-
-fn is_cabal(name: &Text) -> bool
-    ensures { result ≡ is_cabal name.now }
-{
-    name.as_bytes().ends_with(b".cabal")
 }

@@ -39,7 +39,8 @@ impl Listings {
         folder: &mut F,
     ) -> Result<(), Trouble>
         requires { Agree (F.tells folder.old) self.old }
-        ensures observed { IfSome (F.tells folder.old) (λ files. OnOk result (kept self.new dir.now ≡ names_in files dir.now)) }
+        ensures observed { IfSome (F.tells folder.old)
+            (λ files. OnOk result (kept self.new dir.now ≡ names_in files dir.now)) }
         ensures tree { IfSome (F.tells folder.old) (λ files. OnOk result (IsTrue (is_tree files))) }
         ensures agree { OnOk result (Agree (F.tells folder.new) self.new) }
         ensures folder { Leaves F.tells F.faults folder.old folder.new (IsErrOf result Trouble.Failed) }

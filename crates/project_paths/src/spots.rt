@@ -1,11 +1,12 @@
-// Where the names of a pattern lead. A name without a star is taken as it stands, and its directory isn't listed for it.
-ghost use Rattle.std.specs.Prelude.{◌≡◌, ◌∷◌, [], map, filter, flat_map, IfOk, IfSome, OnOk, IsErrOf, IsTrue};
+// Where the names of a pattern lead. A name without a star is taken as it stands, and its directory isn't listed for it,
+// unless it ends in `.cabal`: whether such a file is there is told by a listing, so that no file is read to find it.
+ghost use Rattle.std.specs.Prelude.{◌≡◌, ◌∷◌, [], ◌&&◌, not, map, filter, flat_map, IfOk, IfSome, OnOk, IsErrOf, IsTrue};
 ghost use Rattle.std.specs.List.{list_all};
 ghost use Rattle.std.specs.Option.{option_copied};
 ghost use Rattle.outside_folder.specs.Calls.{Leaves};
 ghost use Rattle.project_paths.specs.Listings.{Agree};
 ghost use Rattle.project_paths.specs.Places.{below, is_matched, path_in, place_in, places, root};
-ghost use Rattle.project_paths.specs.Spots.{Leads, Settled, dir_of, directory, is_literal, is_plain, path_of, seen};
+ghost use Rattle.project_paths.specs.Spots.{Leads, Settled, dir_of, directory, is_cabal, is_literal, is_looked_up, is_plain, is_taken, path_of, seen};
 
 use crate::listings::Listings;
 use crate::places::{FolderPlace, longer_path, place_in, root};
@@ -71,6 +72,7 @@ pub(crate) fn spots<F: Folder>(
     ensures observed { IfSome (F.tells folder.old)
         (λ files. IfOk result (λ found. Leads files found (places files names.now))) }
     ensures settled { IfSome (F.tells folder.old) (λ files. IfOk result (Settled files)) }
+    ensures looked_up { IfOk result (λ found. IsTrue (list_all is_looked_up found)) }
     ensures agree { OnOk result (Agree (F.tells folder.new) listings.new) }
     ensures folder { Leaves F.tells F.faults folder.old folder.new (IsErrOf result Trouble.Failed) }
 {
@@ -98,8 +100,11 @@ fn all_below<F: Folder>(
 ) -> Result<List<Spot>, Trouble>
     requires { Agree (F.tells folder.old) listings.old }
     ensures observed { IfSome (F.tells folder.old)
-        (λ files. IfOk result (λ found. Leads files found (flat_map (below files pattern.now) (flat_map (seen files) spots)))) }
-    ensures settled { IfSome (F.tells folder.old) (λ files. IfOk result (λ found. Settled files spots → Settled files found)) }
+        (λ files. IfOk result
+        (λ found. Leads files found (flat_map (below files pattern.now) (flat_map (seen files) spots)))) }
+    ensures settled { IfSome (F.tells folder.old)
+        (λ files. IfOk result (λ found. Settled files spots → Settled files found)) }
+    ensures looked_up { IfOk result (λ found. IsTrue (list_all is_looked_up found)) }
     ensures agree { OnOk result (Agree (F.tells folder.new) listings.new) }
     ensures folder { Leaves F.tells F.faults folder.old folder.new (IsErrOf result Trouble.Failed) }
 {
@@ -121,7 +126,9 @@ fn below<F: Folder>(
     requires { Agree (F.tells folder.old) listings.old }
     ensures observed { IfSome (F.tells folder.old)
         (λ files. IfOk result (λ found. Leads files found (flat_map (below files pattern.now) (seen files spot)))) }
-    ensures settled { IfSome (F.tells folder.old) (λ files. IfOk result (λ found. Settled files (spot ∷ []) → Settled files found)) }
+    ensures settled { IfSome (F.tells folder.old)
+        (λ files. IfOk result (λ found. Settled files (spot ∷ []) → Settled files found)) }
+    ensures looked_up { IfOk result (λ found. IsTrue (list_all is_looked_up found)) }
     ensures agree { OnOk result (Agree (F.tells folder.new) listings.new) }
     ensures folder { Leaves F.tells F.faults folder.old folder.new (IsErrOf result Trouble.Failed) }
 {
@@ -142,15 +149,29 @@ fn below_dir<F: Folder>(
     ensures observed { IfSome (F.tells folder.old)
         (λ files. IfOk result (λ found. Leads files found (below files pattern.now (directory dir)))) }
     ensures settled { IfSome (F.tells folder.old) (λ files. IfOk result (Settled files)) }
+    ensures looked_up { IfOk result (λ found. IsTrue (list_all is_looked_up found)) }
     ensures agree { OnOk result (Agree (F.tells folder.new) listings.new) }
     ensures folder { Leaves F.tells F.faults folder.old folder.new (IsErrOf result Trouble.Failed) }
 {
-    if is_literal(pattern) {
+    if is_taken(pattern) {
         return Ok(named(alloc, dir, pattern)?);
     }
     listings.list(alloc, &dir, folder)?;
     let found = matched(alloc, pattern, &dir, listings.names(&dir))?;
     Ok(found)
+}
+
+fn is_taken(name: &Text) -> bool
+    ensures { result ≡ is_taken name.now }
+{
+    is_literal(name) && !is_cabal(name)
+}
+
+/// Whether a name ends in `.cabal`.
+pub(crate) fn is_cabal(name: &Text) -> bool
+    ensures { result ≡ is_cabal name.now }
+{
+    name.as_bytes().ends_with(b".cabal")
 }
 
 // A name that matches itself alone.
@@ -188,7 +209,8 @@ fn matched(
     dir: &Text,
     names: &[Name],
 ) -> Result<List<Spot>, NoMemory>
-    ensures { IfOk result (λ found. found ≡ map (λ name. Spot.Listed (place_in dir.now name)) (filter (is_matched pattern.now) names.now)) }
+    ensures { IfOk result (λ found. found ≡ map (λ name. Spot.Listed (place_in dir.now name))
+        (filter (is_matched pattern.now) names.now)) }
 {
     let pieces = cut(alloc, pattern.as_str())?;
     let mut found = List::new(alloc);

@@ -1,5 +1,5 @@
-// Whether a pattern matches a name. It is cut at its stars: the first piece stands in front, the last one at the end, and each of
-// the others is looked for behind the one before it. Its first place leaves the most to those behind it.
+// Whether a pattern matches a name. It is cut at its stars: the first piece stands in front, the last one at the end,
+// and each of the others is looked for behind the one before it. Its first place leaves the most to those behind it.
 ghost use Rattle.std.specs.Prelude.{◌≡◌, ℕ, List, map, IfOk};
 ghost use Rattle.std.specs.Option.{option_copied};
 ghost use Rattle.plan_types.specs.Bytes.{begins_with};
@@ -15,8 +15,8 @@ pub(crate) fn cut(alloc: Global, pattern: &str) -> Result<Vec<&str>, AllocError>
     pattern.split('*').collect(alloc)
 }
 
-/// Whether a pattern, of which these are the pieces, matches a name. One that begins with a point is matched only where the
-/// pattern does, too.
+/// Whether a pattern, of which these are the pieces, matches a name. A name that begins with a point is matched only
+/// where the pattern begins with one, too.
 pub(crate) fn matches(pattern: &[u8], pieces: &[&str], name: &[u8]) -> bool
     requires { map (λ piece. piece.now) pieces.now ≡ cut pattern.now }
     ensures { result ≡ matches pattern.now name.now }

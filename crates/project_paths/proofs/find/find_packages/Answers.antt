@@ -2,7 +2,7 @@ use Rattle.std.proofs.Common.{◌≡◌, Err, ◌∙◌, List, ap, subst, sym}
 use Rattle.std.proofs.lemmas.Result.{err_from_is_err_and}
 use Rattle.outside_folder.specs.Files.{Bytes}
 use Rattle.project_paths.specs.Local.{all_files, finished, implied, local_files, sought}
-use Rattle.project_paths.proofs.Answered.{first-refused, all-found}
+use Rattle.project_paths.proofs.EntryAnswers.{first-refused, all-found}
 use Rattle.common_laws.specs.Small.{if_some, some_at}
 use Rattle.plan_types.specs.Refusal.{Answers, Settles}
 use Rattle.project_paths.proofs.find.find_packages.Goals as goal

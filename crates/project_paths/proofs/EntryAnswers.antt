@@ -1,4 +1,4 @@
--- What the entries of a project come to together.
+-- Shared: what the entries of a project come to together.
 use Rattle.std.proofs.Common.{◌≡◌, List, [], ◌∷◌, ◌++◌, refl, sym, ap, ◌∙◌, append_assoc}
 use Rattle.std.specs.Prelude.{Result, Ok, Err}
 use Rattle.plan_types.specs.declared.project.ProjectEntry.{ProjectEntry}
