@@ -209,6 +209,6 @@ fn is_unbuildable_one(
 {
     match component {
         None => false,
-        Some(component) => !chosen.holds(flags, component.buildable.get()),
+        Some(component) => !chosen.condition_holds(flags, component.buildable.get()),
     }
 }

@@ -2,7 +2,7 @@ use Rattle.std.proofs.Common.{Err, ap, ◌∙◌, sym}
 use Rattle.std.proofs.lemmas.Result.{err_from_is_err_and}
 use Rattle.entry_text.proofs.FoundEntries.{err_so, refuses_so}
 use Rattle.constraint_text.proofs.OneConstraint.{bad_target, bad_what, constraint_entry}
-use Rattle.constraint_text.proofs.constraints.ConstraintRowRow.read.Goals as goal
+use Rattle.constraint_text.proofs.constraints.ConstraintRowEntryKind.read.Goals as goal
 
 pub returns-in_err-scope-clause-fault : goal.returns-in_err-scope-clause-fault
 returns-in_err-scope-clause-fault c =

@@ -2,7 +2,7 @@ use Rattle.std.proofs.Common.{Err, ap, ◌∙◌, sym}
 use Rattle.std.proofs.lemmas.Result.{err_from_is_err_and}
 use Rattle.entry_text.proofs.FoundEntries.{err_so, refuses_so}
 use Rattle.constraint_text.proofs.Project.{bad_named, named_entry}
-use Rattle.constraint_text.proofs.named.NamedRowRow.read.Goals as goal
+use Rattle.constraint_text.proofs.named.NamedRowEntryKind.read.Goals as goal
 
 pub returns-in_err-range-clause-fault : goal.returns-in_err-range-clause-fault
 returns-in_err-range-clause-fault c =

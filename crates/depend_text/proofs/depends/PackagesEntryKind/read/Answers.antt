@@ -2,7 +2,7 @@ use Rattle.std.proofs.Common.{Err, ap, ◌∙◌, sym}
 use Rattle.std.proofs.lemmas.Result.{err_from_is_err_and}
 use Rattle.entry_text.proofs.FoundEntries.{err_so, refuses_so}
 use Rattle.depend_text.proofs.Fits.{bad_libraries, bad_range, library_entry}
-use Rattle.depend_text.proofs.depends.PackagesRow.read.Goals as goal
+use Rattle.depend_text.proofs.depends.PackagesEntryKind.read.Goals as goal
 
 pub returns-in_err-libs-clause-fault : goal.returns-in_err-libs-clause-fault
 returns-in_err-libs-clause-fault c =

@@ -1,7 +1,7 @@
 use Rattle.std.proofs.Common.{ap, ◌∙◌, sym}
 use Rattle.entry_text.proofs.CommaCuts.{texts}
 use Rattle.entry_text.proofs.FoundEntries.{ok_so, fault_so}
-use Rattle.constraint_text.proofs.relax.RelaxRowRow.read.Goals as goal
+use Rattle.constraint_text.proofs.relax.RelaxRowEntryKind.read.Goals as goal
 
 pub returns-clause-found : goal.returns-clause-found
 returns-clause-found c =
