@@ -5,8 +5,8 @@ use Rattle.text_grammar.proofs.Chains.{Goes}
 use Rattle.condition_text.specs.Reading.{bad, cond_tail, opened_at}
 use Rattle.condition_text.proofs.read.+reading.Given as goal
 
-abbrev pub decreases-opened : goal.decreases-opened
-decreases-opened l = 8 * l.room + 0
+abbrev pub decreases-inner_factor : goal.decreases-inner_factor
+decreases-inner_factor l = 8 * l.room + 0
 
 abbrev pub decreases-next_factor : goal.decreases-next_factor
 decreases-next_factor l = 8 * l.room + 1

@@ -3,8 +3,8 @@ use Rattle.plan_types.specs.declared.condition.Cond.{size-Cond}
 use Rattle.plan_components.specs.Chosen.{condition_holds}
 use Rattle.plan_components.proofs.chosen.Chosen.+condition_holds.Given as goal
 
-abbrev pub decreases-holds : goal.decreases-holds
-decreases-holds l = size-Cond l.cond.now
+abbrev pub decreases-condition_holds : goal.decreases-condition_holds
+decreases-condition_holds l = size-Cond l.cond.now
 
 -- if the last sides are Yes, the rest decides, and it is no larger than the whole
 abbrev pub invariant-loop-left : goal.invariant-loop-left
