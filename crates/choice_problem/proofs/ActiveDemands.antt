@@ -1,4 +1,4 @@
--- Shared: the demands that are active after a trail: those that are Yes, in the order in which they became so.
+-- Shared: the active demands of a trail: those that are Yes, in the order in which they became Yes.
 use Rattle.std.proofs.Common.{◌≡◌, ℕ, Bool, true, false, cond, not, List, [], ◌∷◌, ◌++◌, map, Option, Some, None, refl, sym, ap, ◌∙◌, subst, inl, inr, ◌⊎◌, append_assoc}
 use Rattle.std.specs.Prelude.{is_none, find, IfSome}
 use Rattle.std.specs.List.{Contains, All, filter, flat_map, list_all}

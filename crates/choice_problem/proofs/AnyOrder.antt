@@ -1,4 +1,4 @@
--- Choices of open variables in any order, after which none is open, name the variables of the trail that their assignment has.
+-- Choices of open variables, until none is open, have the variables of their assignment's trail.
 use Rattle.std.proofs.Common.{◌≡◌, ◌↔◌, ℕ, zero, suc, true, false, List, [], ◌∷◌, ◌++◌, map, get_or, Some, None, refl, sym, ap, ◌∙◌, subst, inl, inr, ◌⊎◌, append_assoc}
 use Rattle.std.specs.Prelude.{is_none, is_some, IsSome}
 use Rattle.std.specs.List.{Contains, All}

@@ -297,13 +297,13 @@ lasting-circular trail ds h = none-named (circular ds) (each-none (lasting_sets 
 pub lasting-acyclic : (trail : List Choice) (ds : List Demand) → lasting_set trail ds ≡ None → (d : Demand) → Contains ds d → lies_on_cycle (edges_of ds) d ≡ false
 lasting-acyclic trail ds h d k = circular-none ds d (lasting-circular trail ds h) k
 
--- and no two that must agree have different values
+-- no two demands that must agree have different values
 pub lasting-agree : (trail : List Choice) (ds : List Demand) → lasting_set trail ds ≡ None → first_clash trail ds ≡ None
 lasting-agree trail ds h =
     none-paired (first_clash trail ds) (each-none (lasting_sets trail ds) (agreement_set trail ds) h
     (contains-tail (cycle_set ds) (agreement_set trail ds ∷ []) (agreement_set trail ds) (contains-head (agreement_set trail ds) [])))
 
--- where there is neither, the lasting rules give no set
+-- without such a cycle or pair, the lasting rules give no set
 pub lasting-none : (trail : List Choice) (ds : List Demand) → circular ds ≡ [] → first_clash trail ds ≡ None → lasting_set trail ds ≡ None
 lasting-none trail ds h k = ap (λ es. first_set (set_of_all es ∷ agreement_set trail ds ∷ [])) h ∙ ap (λ o. first_set (set_of_pair o ∷ [])) k
 

@@ -1,4 +1,4 @@
--- Shared: demands that must agree, and the pairs of those that stand in a list.
+-- Shared: demands that must agree, and the pairs of a list of demands.
 use Rattle.std.proofs.Common.{◌≡◌, ℕ, true, false, not, ◌&&◌, List, [], ◌∷◌, ◌++◌, map, Option, Some, None, refl, sym, ap, ◌∙◌, subst, inl, inr, ◌⊎◌}
 use Rattle.std.specs.Prelude.{nat_eq}
 use Rattle.std.specs.List.{Contains}
@@ -147,7 +147,7 @@ disagree-back trail d e h =
 pub disagree-self : (trail : List Choice) (d : Demand) → disagree trail (d, d) ≡ false
 disagree-self trail d = false_from_ne_true (disagree trail (d, d)) (λ h. agree-self (owner_of d.when) d.target (disagree-are trail d d h).must)
 
--- where values stay, what disagrees does so
+-- demands that disagree still do where their values stay
 pub disagree-kept : (front trail : List Choice) (x : Demand × Demand) → ((v : Var) (n : ℕ) → value_in front v ≡ Some n → value_in trail v ≡ Some n)
     → disagree front x ≡ true → disagree trail x ≡ true
 disagree-kept front trail (d, e) kept h =

@@ -1,4 +1,4 @@
--- Shared: problems whose demands are Yes together hold the same, and have the same trails and first.
+-- Shared: problems whose demands are Yes together have the same valid assignments, trails and first.
 use Rattle.std.proofs.Common.{◌≡◌, ◌↔◌, ℕ, zero, suc, ◌<◌, Bool, true, List, [], ◌∷◌, ◌++◌, map, get_or, Option, Some, None, refl, sym, ap, ◌∙◌, subst}
 use Rattle.std.specs.Prelude.{is_none, IsSome, IsTrue, IsFalse}
 use Rattle.std.specs.List.{Contains, All, filter}
@@ -36,7 +36,7 @@ together-back g h same = record {
   back = same.there;
 }
 
--- what is one way
+-- one direction
 
 module _ (g h : General) (same : AreYesTogether g h) where
   choice-there : (c : Choice) → IsChoice g c → IsChoice h c
@@ -138,7 +138,7 @@ module _ (g h : General) (lawful_g : LawfulGeneral g) (lawful_h : LawfulGeneral 
     earlier = subst (λ (order : Var → List Choice → List ℕ). IsEarlier (order before.var before.common) before.of_A before.of_B) same.order before.earlier;
   }
 
--- both ways
+-- both directions
 
 module _ (g h : General) (lawful_g : LawfulGeneral g) (lawful_h : LawfulGeneral h) (same : AreYesTogether g h) where
   known-there : (A : Assignment) → IsAssignmentIn g g.known A → IsAssignmentIn h h.known A

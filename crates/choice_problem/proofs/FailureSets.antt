@@ -86,13 +86,13 @@ module _ (p : Problem) where
         ∙ sym (within-at small A s.target of-s.inside);
   }
 
-  -- with a set that admits none a larger one does neither
+  -- where a set admits none, a superset admits none
   pub admits-more : (small large : List Var) (trail : List Choice) → ((v : Var) → has small v ≡ true → has large v ≡ true) → AdmitsNoneWith p small trail → AdmitsNoneWith p large trail
   admits-more small large trail sub none A holds makes =
       none (within (has small) A) (restrict (has large) (has small) A (λ r is h. sub r.target h) holds)
       (λ v n h e. within-at (has small) A v h ∙ makes v n (sub v h) e)
 
-  -- a choice of a variable outside the set is none of its business
+  -- a choice of a variable outside the set doesn't matter
   pub admits-less : (set : List Var) (trail : List Choice) (v : Var) (n : ℕ) → has set v ≡ false → AdmitsNoneWith p set (trail ++ choice_of v n ∷ []) → AdmitsNoneWith p set trail
   admits-less set trail v n out none A holds makes =
       none A holds

@@ -1,4 +1,4 @@
--- Shared: two whole valid assignments have one trail, or one of them comes before the other.
+-- Shared: two complete, valid assignments have one trail, or one of them comes before the other.
 use Rattle.std.proofs.Common.{◌≡◌, ℕ, zero, suc, true, false, List, [], ◌∷◌, ◌++◌, map, Some, None, refl, sym, ap, ◌∙◌, subst, inl, inr, ◌⊎◌, append_assoc}
 use Rattle.std.specs.Prelude.{is_none, is_some, nat_eq}
 use Rattle.std.specs.List.{Contains}
@@ -49,7 +49,7 @@ passes-all A trail passes each =
     λ i v. at v i
 
 module _ (g : General) (lawful : LawfulGeneral g) where
-  -- a whole valid assignment has a value for the variable that is open next on its trail
+  -- a complete, valid assignment has a value for the next open variable of its trail
   whole-next : (A : Assignment) (fuel : ℕ) (trail : List Choice) (v : Var) → IsWholeValid g A → Passes A trail → trail_from (suc fuel) g A trail ≡ trail_of g A → next_var g trail ≡ Some v
       → (n : ℕ) × (A v ≡ Some n)
   whole-next A fuel trail v valid passes on next =
@@ -66,7 +66,7 @@ module _ (g : General) (lawful : LawfulGeneral g) where
             absurd (false≢true (subst (λ x. is_one_of x r.allowed ≡ true) (ap A o.target ∙ e) met))
       ] refl
 
-  -- the trails part after a common front, where the value of A is the earlier one
+  -- the trails differ after a common prefix, and the value of A is the earlier one
   record Parts (A B : Assignment) (of_trail of_other : List Choice) : Type 0 where
     common : List Choice
     var : Var

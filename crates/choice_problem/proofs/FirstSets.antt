@@ -1,4 +1,4 @@
--- Shared: the first of some sets, of which each may be missing.
+-- Shared: the first set that isn't missing.
 use Rattle.std.proofs.Common.{◌≡◌, List, [], ◌∷◌, ◌++◌, Option, Some, None, refl, sym, subst, inl, inr}
 use Rattle.std.specs.List.{Contains}
 use Rattle.qualified_goals.specs.declared.variable.Var.{Var}
@@ -15,7 +15,7 @@ each-none [] o h k = absurd (contains-none o k)
 each-none (None ∷ sets) o h k = elim (contains-cases None sets o k) [ inl e ↦ sym e | inr r ↦ each-none sets o h r ]
 each-none (Some s ∷ sets) o h k = absurd (cc h)
 
--- a set of the front is the first of all
+-- a set in the front is the first of all
 pub front-some : (sets more : List (Option (List Var))) (set : List Var) → first_set sets ≡ Some set → first_set (sets ++ more) ≡ Some set
 front-some [] more set h = absurd (cc h)
 front-some (None ∷ sets) more set h = front-some sets more set h

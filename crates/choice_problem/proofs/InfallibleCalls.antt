@@ -1,9 +1,9 @@
--- Shared: what holds of a call that can't fail there.
+-- Shared: a call that can't fail.
 use Rattle.std.proofs.Common.{◌≡◌, false, Result, Ok, Err, OnOk, OnErr, sym}
 use Rattle.std.specs.Result.{is_err}
 use Rattle.std.proofs.lemmas.Bool.{false≢true}
 
--- what holds where a call that can't fail succeeds
+-- a clause on success holds for a call that can't fail
 pub ok-of : {T E : Type 0} {P Q : Type 0} → (r : Result T E) → OnOk r P → OnErr r Q → (Q → ⊥) → P
 ok-of (Ok x) h k n = h
 ok-of (Err e) h k n = absurd (n k)

@@ -1,4 +1,4 @@
--- Shared: partial maps: what the derived order finds is what the goal order finds.
+-- Shared: partial maps: look-ups by the derived order and by the goal order agree.
 use Rattle.std.proofs.Common.{◌≡◌, ℕ, List, [], ◌∷◌, cond, Option, Some, ◌∙◌, sym, ap, refl, rules}
 use Rattle.std.specs.BTreeMap.{is_at}
 use Rattle.std.specs.Map.{lookup}

@@ -1,4 +1,4 @@
--- Shared: rising lists of variables: what stands at a place, one variable less, and the least.
+-- Shared: rising lists of variables: the variable at a place, one variable removed, and the least.
 use Rattle.std.proofs.Common.{◌≡◌, ℕ, zero, suc, ◌+◌, ◌<◌, ◌≤◌, arith, add-one, length, get_or, insert, Bool, true, false, not, cond, ◌&&◌, ◌||◌, List, [], ◌∷◌, Option, Some, None, refl, sym, ap, ◌∙◌}
 use Rattle.std.specs.List.{slice_get, remove}
 use Rattle.std.specs.List.Sorted.{IsPartitionedBy}
@@ -43,7 +43,7 @@ there-within v (w ∷ vars) h k =
       | false ↦ λ e. omega arith
     ] refl
 
--- one variable less
+-- one variable removed
 
 pub without-none : (v : Var) (vars : List Var) → has vars v ≡ false → without v vars ≡ vars
 without-none v [] h = refl
@@ -171,7 +171,7 @@ there-some v vars n w h e within is =
 pub there-none : (v : Var) (vars : List Var) (n : ℕ) → is_rising vars ≡ true → n ≡ place_of v vars → length vars ≤ n → false ≡ has vars v
 there-none v vars n h e past = sym (ap (is_there v) (get-none vars n past)) ∙ ap (λ k. is_there v (slice_get vars k)) e ∙ there v vars h
 
--- the place that a search by halves finds
+-- the place that a binary search finds
 
 rising-at : (w : Var) (vars : List Var) (k : ℕ) (d : Var) → is_rising (w ∷ vars) ≡ true → k < length vars → is_before w (get_or vars k d) ≡ true
 rising-at w [] k d h within = absurd (omega (arith, within))

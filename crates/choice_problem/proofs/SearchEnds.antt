@@ -1,4 +1,4 @@
--- Shared: how a search ends: with the first whole valid assignment, or where there is none, and without a limit in no other way.
+-- Shared: without a limit a search ends with the first complete, valid assignment, or none exists.
 use Rattle.std.proofs.Common.{◌≡◌, ◌≢◌, ℕ, zero, suc, ◌<◌, Bool, true, false, cond, not, ◌&&◌, List, [], ◌∷◌, ◌++◌, length, Some, None, refl, sym, ap, ◌∙◌, subst, inl, inr, ◌⊎◌, append_assoc}
 use Rattle.std.specs.Prelude.{is_none}
 use Rattle.std.specs.List.{Contains, All, AllPairs, list_any}
@@ -39,7 +39,7 @@ use Rattle.choice_problem.proofs.SearchLimits.{no-limit}
 abbrev pub unlimited : Guide → Bool → Manner
 unlimited guide jumps = record { guide = guide; limit = Unlimited; jumps = jumps }
 
--- where a guide picks by what is met, what it picks passes
+-- the variables that the guide picks satisfy Picks
 abbrev pub PicksBy : (p : Problem) → Guide → (List Choice → Var → Type 0) → Type 0
 PicksBy p guide Picks = (met : List (List Var)) (prefix : List Choice) (v : Var) → guide met (open_in p prefix) ≡ Some v → Picks prefix v
 
@@ -52,7 +52,7 @@ abbrev pub Least : Problem → List Choice → Var → Type 0
 Least p trail v = least_open p trail ≡ Some v
 
 module _ (p : Problem) (Picks : List Choice → Var → Type 0) where
-  -- a way from a trail to another by choices that don't conflict, of variables that pass
+  -- steps from one trail to another: choices without conflict, of variables that satisfy Picks
   pub data Reaches (to : List Choice) : List Choice → Type 0 where
     here : {trail : List Choice} → trail ≡ to → Reaches to trail
     goes : {trail : List Choice} → (v : Var) (n : ℕ) → Picks trail v → IsChoice p (choice_of v n) → conflict p trail (choice_of v n) ≡ None
@@ -62,7 +62,7 @@ module _ (p : Problem) (Picks : List Choice → Var → Type 0) where
   reach-join mid to from (here e) b = subst (λ t. Reaches to t) (sym e) b
   reach-join mid to from (goes v n next is free a) b = goes v n next is free (reach-join mid to (from ++ choice_of v n ∷ []) a b)
 
-  -- one choice more
+  -- one more choice
   pub reach-push : (to from : List Choice) (v : Var) (n : ℕ) → Reaches to from → Picks to v → IsChoice p (choice_of v n) → conflict p to (choice_of v n) ≡ None
       → Reaches (to ++ choice_of v n ∷ []) from
   reach-push to from v n a next is free = reach-join to (to ++ choice_of v n ∷ []) from a (goes v n next is free (here refl))
@@ -142,7 +142,7 @@ module _ (p : Problem) where
   abbrev pub IsRefuted : List Choice → Type 0
   IsRefuted trail = (set : List Var) × AdmitsNoneWith p set trail
 
-  -- what was found after some choices: the value, and those before it, which were refuted
+  -- the trail found goes on with this value, and the values before it were refuted
   record IsFoundAt (Below : List Choice → Past → Answer) (prefix : List Choice) (v : Var) (values : List ℕ) (found : List Choice) : Type 0 where
     front : List ℕ
     value : ℕ
@@ -303,7 +303,7 @@ module _ (p : Problem) (lawful : Lawful p) where
         | inr none ↦ absurd (contains-none d none)
       ]
 
-  -- and nothing has a value
+  -- before any choice no two demands disagree
   nothing-apart : (d e : Demand) → disagree [] (d, e) ≡ false
   nothing-apart d e = and_right (must_agree (request_of d).owner d.target (request_of e).owner e.target) false refl
 
@@ -334,7 +334,7 @@ module _ (p : Problem) (lawful : Lawful p) where
   reach-kept Picks to from (here e) kept = subst (λ t. IsKept p t) e kept
   reach-kept Picks to from (goes v n next is none a) kept = reach-kept Picks to (from ++ choice_of v n ∷ []) a (kept-push from (choice_of v n) kept (free p from (choice_of v n) none))
 
-  -- the trail of the map that a found trail is
+  -- the trail of a found trail's assignment
   reach-trail : (found : List Choice) (fuel : ℕ) (trail : List Choice) → Reaches p (Least p) found trail → All (IsChoice p) trail → HasRoom fuel trail → next_var (general p) found ≡ None
       → trail_from fuel (general p) (value_in found) trail ≡ found
   reach-trail found zero trail (here e) choices room none = e
@@ -490,7 +490,7 @@ module _ (p : Problem) (lawful : Lawful p) where
         new = reach-new p (Open p) opens found [] way before_any;
       }
 
-  -- the trail of what is found by the least open variables is what was found
+  -- a trail found by the least open variables is the trail of its assignment
   found-trail : (manner : Manner) → manner.guide ≡ least → (past : Past) (found : List Choice) → (answer_from p.bound manner p [] past).ended ≡ Found found
       → trail_of (general p) (value_in found) ≡ found
   found-trail manner by past found h =
@@ -553,7 +553,7 @@ module _ (p : Problem) (lawful : Lawful p) where
         at-place found common c rest between first.fuel (trail ++ d ∷ []) first.past (All-push (IsChoice p) trail d choices first.choice) first.goes_on
         (append_assoc trail (d ∷ []) between ∙ e) k
 
-  -- what a search by the least open variables finds from the start is the first
+  -- a search by the least open variables finds the first assignment
   found-first : (manner : Manner) → manner.guide ≡ least → (past : Past) (found : List Choice) → (answer_from p.bound manner p [] past).ended ≡ Found found → IsFirst (general p) (value_in found)
   found-first manner by past found h =
       let guide = subst IsGuide (sym by) least-is-guide in
@@ -577,7 +577,7 @@ module _ (p : Problem) (lawful : Lawful p) where
             refuted-none (common ++ m ∷ []) (place.before before.of_A front) B valid.holds passes;
       }
 
-  -- a search that fails from the start names a set that admits none, and there is no whole valid assignment
+  -- a failed search has a set that admits none, and no assignment is complete and valid
   none-at-all : (manner : Manner) → IsGuide manner.guide → (set : List Var) → (answer_from p.bound manner p [] nothing_yet).ended ≡ Failed set → AreNone p set
   none-at-all manner guide set e = (
     λ A holds. failures-sound p lawful p.bound manner [] nothing_yet set guide (All-nil (IsChoice p)) e A holds (λ v n h k. absurd (cc k)),

@@ -1,4 +1,4 @@
--- Shared: one choice more or less at the end of a trail.
+-- Shared: a choice pushed to a trail or popped from it.
 use Rattle.std.proofs.Common.{◌≡◌, ℕ, ◌-◌, true, false, cond, List, [], ◌∷◌, ◌++◌, length, take, get_or, Some, None, refl, sym, ap, ◌∙◌, subst, arith, append-nil, length-append}
 use Rattle.std.specs.Prelude.{◌≢◌, nat_eq, is_some}
 use Rattle.std.specs.List.{filter}

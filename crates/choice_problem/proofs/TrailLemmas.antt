@@ -1,4 +1,4 @@
--- Shared: trails as maps, the variables that are open after them, and the demands so far.
+-- Shared: trails as assignments, their open variables, and the demands so far.
 use Rattle.std.proofs.Common.{◌≡◌, ℕ, zero, suc, ◌≤◌, Bool, true, false, cond, ◌||◌, List, [], ◌∷◌, ◌++◌, length, map, get_or, append_assoc, arith, Option, Some, None, refl, sym, ap, ◌∙◌, subst, inl, inr, nat_eq}
 use Rattle.std.specs.Prelude.{is_none, is_some, IsTrue}
 use Rattle.std.specs.List.{Contains, All, filter, flat_map, list_all}
@@ -19,7 +19,7 @@ use Rattle.qualified_goals.specs.SameVariable.{same_var-is, same_var-refl}
 use Rattle.common_laws.specs.Lists.{contains-head, contains-tail, contains-none, contains-cases, contains-left, contains-right, contains-append, contains-flat_map, flat_map-contains, contains-map, map-contains, without, contains-filter, filter-contains, all-at, all-from}
 use Rattle.choice_problem.proofs.VariableSets.{has-contains, contains-has, has-set_of, first-has, first-none}
 
--- a trail as a map
+-- a trail as an assignment
 
 -- what a test chooses
 pub cond-true : {X : Type 0} (b : Bool) (x y : X) → b ≡ true → cond b x y ≡ x
@@ -332,7 +332,7 @@ module _ (p : Problem) where
       let found = contains-map request_of ds (get_or (map request_of ds) k x) (Contains-get_or (map request_of ds) k x h) in
       subst Q found.2 (f found.0 (All-contains P ds found.0 all found.1))
 
-  -- the laws are kept
+  -- the general problem is lawful
   pub general-lawful : Lawful p → LawfulGeneral (general p)
   general-lawful lawful = record {
     bounded = record { variables = lawful.bounded.variables; count = lawful.bounded.count; each = lawful.bounded.each };

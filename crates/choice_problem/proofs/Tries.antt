@@ -1,4 +1,4 @@
--- A search that leaves points early tries at most as many values as one that doesn't.
+-- A search with backjumps tries at most as many values as one without.
 use Rattle.std.proofs.Common.{◌≡◌, ℕ, zero, suc, ◌<◌, ◌≤◌, true, false, cond, not, List, [], ◌∷◌, ◌++◌, Some, None, refl, sym, subst, le_trans, arith}
 use Rattle.std.specs.List.{Contains}
 use Rattle.std.proofs.lemmas.List.Elements.{All-nil, All-contains}
@@ -19,7 +19,7 @@ use Rattle.choice_problem.specs.Guide.{least}
 use Rattle.choice_problem.specs.Guides.{least-is-guide}
 use Rattle.choice_problem.proofs.SearchEnds.{unlimited, Open, Reaches, here, reach-push, reach-choices, never-gives-up, failed-none, found-valid}
 
--- a search without a limit that leaves a point early, and one that doesn't
+-- a search without a limit, with backjumps and without
 
 abbrev pub jumping : Manner
 jumping = unlimited least true
@@ -27,7 +27,7 @@ jumping = unlimited least true
 abbrev pub plain : Manner
 plain = unlimited least false
 
--- an exhausted point tries nothing more
+-- an exhausted point tries no more values
 exhausts-visited : (manner : Manner) (p : Problem) (prefix : List Choice) (v : Var) (failed : List Var) (past : Past) → (exhausts manner p prefix v failed past).past.counts.visited ≡ past.counts.visited
 exhausts-visited manner p prefix v failed past =
     elim (gives_up manner.limit prefix past.counts.exhausted) as (λ b. (cond b (answer_with GaveUp past)

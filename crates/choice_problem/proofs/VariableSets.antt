@@ -1,4 +1,4 @@
--- Shared: sets of variables, as rising lists: what they have, and that they are one where they have the same.
+-- Shared: sets of variables as rising lists; two with the same members are equal.
 use Rattle.std.proofs.Common.{◌≡◌, suc, ◌+◌, ◌<◌, ◌≤◌, arith, length, get_or, insert, Bool, true, false, cond, ◌&&◌, ◌||◌, List, [], ◌∷◌, ◌++◌, Some, None, refl, sym, ap, ◌∙◌, subst, inl, inr, add-one}
 use Rattle.std.specs.List.{Contains, slice_get}
 use Rattle.std.proofs.lemmas.Bool.{false≢true, or_right, and_parts, and_from}
@@ -133,7 +133,7 @@ rising-not v vars h =
       | false ↦ λ e. refl
     ] refl
 
--- the first of two rising lists with the same members is one
+-- two rising lists with the same members have the same first variable
 first-same : (x : Var) (xs : List Var) (y : Var) (ys : List Var) → is_rising (x ∷ xs) ≡ true → is_rising (y ∷ ys) ≡ true
     → Contains (y ∷ ys) x → Contains (x ∷ xs) y → x ≡ y
 first-same x xs y ys hx hy inx iny =
@@ -204,7 +204,7 @@ insert-place v (w ∷ vars) d h =
 pub set_of-rising : (vars : List Var) → is_rising vars ≡ true → set_of vars ≡ vars
 set_of-rising vars h = rising-same (set_of vars) vars (rising-set_of vars) h (has-set_of vars)
 
--- sets of the same variables are one
+-- sets of the same variables are equal
 pub set-same : (xs ys : List Var) → ((v : Var) → has xs v ≡ has ys v) → set_of xs ≡ set_of ys
 set-same xs ys same = rising-same (set_of xs) (set_of ys) (rising-set_of xs) (rising-set_of ys) (λ v. has-set_of xs v ∙ same v ∙ sym (has-set_of ys v))
 

@@ -1,4 +1,4 @@
--- The demands that are active after some choices, in order, and what they open.
+-- The active demands after some choices, in order, and the variables that they open.
 use Rattle.std.specs.Prelude.{Bool, not, ◌&&◌, List, [], ◌∷◌, ◌++◌, Option, Some, None, is_none, filter, find, map}
 use Rattle.qualified_goals.specs.declared.variable.Var.{Var}
 use Rattle.choice_problem.specs.declared.problem.Choice.{Choice}
@@ -10,7 +10,7 @@ use Rattle.choice_problem.specs.General.{general}
 use Rattle.choice_problem.specs.Trail.{value_in, demands_after, open_vars, next_var}
 use Rattle.choice_problem.specs.ConflictSet.{has, first_behind, set_of}
 
--- Yes with a choice, and not before it
+-- the demand is Yes with the choice, and wasn't before it
 abbrev pub turns_yes : List Choice → Choice → Demand → Bool
 turns_yes trail c d = is_yes (value_in (trail ++ c ∷ [])) d && not (is_yes (value_in trail) d)
 
@@ -18,7 +18,7 @@ turns_yes trail c d = is_yes (value_in (trail ++ c ∷ [])) d && not (is_yes (va
 unfoldable pub made_active : Problem → List Choice → Choice → List Demand
 made_active p trail c = filter (turns_yes trail c) (demands_after p (trail ++ c ∷ []))
 
--- those that one choice after another makes active, where some choices stand before them
+-- the demands that the choices make active one after another, with some choices before them
 abbrev pub active_from : Problem → List Choice → List Choice → List Demand
 active_from p before [] = []
 active_from p before (c ∷ rest) = made_active p before c ++ active_from p (before ++ c ∷ []) rest

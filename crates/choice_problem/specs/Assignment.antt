@@ -1,4 +1,4 @@
--- Assignments, and the demands that they make and meet.
+-- Assignments, and which demands are Yes or met under them.
 use Rattle.std.specs.Prelude.{ℕ, Bool, false, nat_eq, List, [], ◌∷◌, Option, Some, None}
 use Rattle.std.specs.List.{list_all, list_any}
 use Rattle.qualified_goals.specs.declared.variable.Var.{Var}

@@ -17,7 +17,7 @@ use Rattle.choice_problem.specs.ConflictSet.{set_of}
 abbrev pub named_by : Demand → List Var
 named_by d = d.target ∷ vars_of d.when
 
--- the set of the variables that a demand names, where there is one
+-- the set of the variables that the demand names, if there is a demand
 abbrev pub set_of_first : Option Demand → Option (List Var)
 set_of_first None = None
 set_of_first (Some d) = Some (set_of (named_by d))
@@ -69,11 +69,11 @@ leads (suc n) edges v w = same_var v w || list_any (λ e. same_var e.from v && l
 abbrev pub lies_on_cycle : List Edge → Demand → Bool
 lies_on_cycle edges d = list_any (λ e. leads (length edges) edges e.to e.from) (edges_by d)
 
--- those of some demands whose edges lie on a cycle
+-- the demands whose edges lie on a cycle
 unfoldable pub circular : List Demand → List Demand
 circular demands = filter (lies_on_cycle (edges_of demands)) demands
 
--- the set of the variables that some demands name, where there are any
+-- the set of the variables that the demands name, if there is a demand
 abbrev pub set_of_all : List Demand → Option (List Var)
 set_of_all [] = None
 set_of_all (d ∷ demands) = Some (set_of (flat_map named_by (d ∷ demands)))
@@ -86,7 +86,7 @@ cycle_set demands = set_of_all (circular demands)
 abbrev pub disagree : List Choice → Demand × Demand → Bool
 disagree trail (d, e) = must_agree (owner_of d.when) d.target (owner_of e.when) e.target && differ (value_in trail d.target) (value_in trail e.target)
 
--- the pairs of some demands of which the later one stands behind others: by the later one, and then by the earlier
+-- the pairs whose later demand is in the second list: ordered by the later one, then by the earlier
 abbrev pub pairs_behind : List Demand → List Demand → List (Demand × Demand)
 pairs_behind before [] = []
 pairs_behind before (d ∷ rest) = map (λ e. (e, d)) before ++ pairs_behind (before ++ d ∷ []) rest
@@ -95,7 +95,7 @@ pairs_behind before (d ∷ rest) = map (λ e. (e, d)) before ++ pairs_behind (be
 unfoldable pub first_clash : List Choice → List Demand → Option (Demand × Demand)
 first_clash trail demands = find (disagree trail) (pairs_behind [] demands)
 
--- the set of the variables that two demands name, where there are two
+-- the set of the variables that a pair of demands names, if there is a pair
 abbrev pub set_of_pair : Option (Demand × Demand) → Option (List Var)
 set_of_pair None = None
 set_of_pair (Some (d, e)) = Some (set_of (named_by d ++ named_by e))
@@ -104,17 +104,17 @@ set_of_pair (Some (d, e)) = Some (set_of (named_by d ++ named_by e))
 abbrev pub agreement_set : List Choice → List Demand → Option (List Var)
 agreement_set trail demands = set_of_pair (first_clash trail demands)
 
--- the first of some sets, of which each may be missing
+-- the first set that isn't missing
 abbrev pub first_set : List (Option (List Var)) → Option (List Var)
 first_set [] = None
 first_set (None ∷ sets) = first_set sets
 first_set (Some set ∷ sets) = Some set
 
--- The rules of a value, and of active demands with it.
+-- The sets of the rules on a value.
 abbrev pub value_sets : Problem → List Choice → Choice → List (Option (List Var))
 value_sets p trail c = barred_set p c ∷ refused_set p trail c ∷ broken_set p trail c ∷ []
 
--- The rules that last: they are of choices and the demands that are active after them, whichever choice came last.
+-- The sets of the lasting rules: rules on choices and their active demands, whichever choice came last.
 abbrev pub lasting_sets : List Choice → List Demand → List (Option (List Var))
 lasting_sets trail demands = cycle_set demands ∷ agreement_set trail demands ∷ []
 

@@ -14,12 +14,12 @@ is_rising (v ∷ w ∷ vars) = is_before v w && is_rising (w ∷ vars)
 abbrev pub has : List Var → Var → Bool
 has vars v = list_any (λ w. same_var w v) vars
 
--- the set with one variable more
+-- the set with one more variable
 abbrev pub with_var : Var → List Var → List Var
 with_var v [] = v ∷ []
 with_var v (w ∷ vars) = cond (is_before v w) (v ∷ w ∷ vars) (cond (same_var v w) (w ∷ vars) (w ∷ with_var v vars))
 
--- the variables but for one
+-- the variables without one
 abbrev pub without : Var → List Var → List Var
 without v vars = filter (λ w. not (same_var v w)) vars
 
@@ -38,7 +38,7 @@ abbrev pub set_of : List Var → List Var
 set_of [] = []
 set_of (v ∷ vars) = with_var v (set_of vars)
 
--- the set of what is in either
+-- the union of two sets
 abbrev pub union : List Var → List Var → List Var
 union xs ys = set_of (xs ++ ys)
 
@@ -54,7 +54,7 @@ front_of [] (w ∷ ws) = Some w
 front_of (v ∷ vs) [] = Some v
 front_of (v ∷ vs) (w ∷ ws) = Some (cond (is_before w v) w v)
 
--- what follows a variable, where it is the first
+-- the list without its first variable, where that is v
 abbrev pub behind : Var → List Var → List Var
 behind v [] = []
 behind v (w ∷ ws) = cond (same_var w v) ws (w ∷ ws)

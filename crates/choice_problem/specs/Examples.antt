@@ -46,8 +46,8 @@ asks owner n allowed = record { when = owner ∷ []; target = package_var n; all
 abbrev by_number : (ℕ → Option ℕ) → Assignment
 by_number numbers v = numbers v.«package»
 
--- A late goal. Packages in goal order: a, b, c, main, and a fifth without values. main asks for b and c; b's value 1
--- asks for c's value 0, which asks for the fifth; b's value 0 asks for a.
+-- A late goal. Packages in goal order: a, b, c, main, and a fifth without values. main demands b and c; b's value 1
+-- demands c's value 0, which demands the fifth; b's value 0 demands a.
 abbrev a : ℕ
 a = 0
 
@@ -113,7 +113,7 @@ pub short_trail : trail_of (general late) short ≡ choice main 0 ∷ choice b 0
 unfolding open_vars
 short_trail = refl
 
--- b's value 1 asks for c's value 0: the demand is Yes and isn't met
+-- b's value 1 demands c's value 0: the demand is Yes and isn't met
 abbrev clash : Assignment
 clash = by_number (λ n. cond (nat_eq n main) (Some 0) (cond (nat_eq n b || nat_eq n c) (Some 1) None))
 
@@ -157,8 +157,8 @@ set = refl
 pub in_set : has (set_of (package_var 2 ∷ package_var 0 ∷ [])) (package_var 1) ≡ false
 in_set = refl
 
--- A demand of an earlier owner that becomes active late. The package 0 asks for 1 and, with its flag on, for 2, which
--- asks for 3; the package 1 asks for 2 and then for 3.
+-- A demand of an earlier owner that becomes active late. The package 0 demands 1 and, with its flag on, 2, which
+-- demands 3; the package 1 demands 2 and then 3.
 abbrev flagged : Demand
 flagged = record { when = choice 0 0 ∷ choice_of (flag_var 0 0) 1 ∷ []; target = package_var 2; allowed = 1 ∷ [] }
 
@@ -179,7 +179,7 @@ pub active_late : active order flag_last ≡ root 0 (0 ∷ []) ∷ flag_root ∷
 unfolding made_active active
 active_late = refl
 
--- so the reason of 2 is 1, which asked for it first
+-- so the reason of 2 is 1, which demanded it first
 pub first_reason : reason order flag_last (package_var 2) ≡ package_var 1 ∷ []
 unfolding made_active active reason
 first_reason = refl
@@ -211,7 +211,7 @@ pub by_breach : conflict rules (choice 0 0 ∷ choice 2 0 ∷ []) (choice 1 0) �
 unfolding conflict circular first_clash made_active active
 by_breach = refl
 
--- as long as 2 isn't chosen it does no harm
+-- while 2 isn't chosen, the demand breaks no rule
 pub no_conflict : conflict rules (choice 0 0 ∷ []) (choice 1 0) ≡ None
 unfolding conflict circular first_clash made_active active
 no_conflict = refl
@@ -248,17 +248,17 @@ pub far_failed : outcome_of (answer_of far Unlimited) ≡ outcome.NoPlan (packag
 unfolding guided_answer open_vars reason conflict circular first_clash made_active active
 far_failed = refl
 
--- without leaving a point early there are more tries
+-- without backjumps there are more tries
 pub far_plain : plain_count far ≡ 22
 unfolding plain_count open_vars reason conflict circular first_clash made_active active
 far_plain = refl
 
--- the limit 1 is met at the second exhausted point, which isn't counted
+-- the limit 1 is reached at the second exhausted point, which isn't counted
 pub far_limit : outcome_of (answer_of far (At 1)) ≡ outcome.GaveUp (counts_of 8 1)
 unfolding guided_answer open_vars reason conflict circular first_clash made_active active
 far_limit = refl
 
--- the limit 2 is met at the first point alone, which never gives up
+-- the limit 2 is reached at the first point alone, which never gives up
 pub first_point : outcome_of (answer_of far (At 2)) ≡ outcome.NoPlan (package_var 0 ∷ package_var 3 ∷ []) (counts_of 8 3)
 unfolding guided_answer open_vars reason conflict circular first_clash made_active active
 first_point = refl
@@ -273,7 +273,7 @@ pub far_counted : outcome_of (guided_answer most_met far Unlimited) ≡ outcome.
 unfolding guided_answer open_vars reason conflict circular first_clash made_active active
 far_counted = refl
 
--- of two that were met as often the lesser is picked, and the one that was met more often before both
+-- of two with equal scores the lesser is picked, and a variable with a greater score before both
 pub least_of_equals : most_met ((package_var 1 ∷ package_var 2 ∷ []) ∷ []) (package_var 0 ∷ package_var 1 ∷ package_var 2 ∷ []) ≡ Some (package_var 1)
 least_of_equals = refl
 

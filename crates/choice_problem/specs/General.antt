@@ -1,5 +1,5 @@
--- What is valid reads of a demand its owner, its target, its allowed values, and whether it is Yes under an assignment:
--- how its condition is written doesn't matter.
+-- Validity depends on a demand's owner, target and allowed values, and on whether it is Yes under an assignment.
+-- It doesn't depend on how the condition is written.
 use Rattle.std.specs.Prelude.{◌≡◌, ℕ, Bool, true, IsTrue, List, [], ◌∷◌, Option, Some, None, All, map}
 use Rattle.qualified_goals.specs.declared.variable.Var.{Var}
 use Rattle.choice_problem.specs.declared.problem.Choice.{Choice}
@@ -29,7 +29,7 @@ pub record IsOwnedRequest (g : General) (owner : Choice) (r : Request) : Type 0 
   pub target : IsTrue (g.known r.target)
   pub chosen : (A : Assignment) → r.is_yes A ≡ true → A owner.var ≡ Some owner.val
 
--- the laws
+-- the laws of a problem
 pub record LawfulGeneral (g : General) : Type 0 where
   pub bounded : IsBounded g
   pub order : IsOrdered g
@@ -41,7 +41,7 @@ abbrev pub owner_of : List Choice → Option Choice
 owner_of [] = None
 owner_of (owner ∷ others) = Some owner
 
--- what is valid reads this of a demand
+-- a demand as a request
 abbrev pub request_of : Demand → Request
 request_of d = record { owner = owner_of d.when; target = d.target; allowed = d.allowed; is_yes = λ A. is_yes A d }
 

@@ -1,4 +1,4 @@
--- What an assignment holds within, and sets that admit none.
+-- Assignments that hold within a set, and sets that admit none.
 use Rattle.std.specs.Prelude.{◌≡◌, ℕ, Bool, IsTrue, IsFalse, Some}
 use Rattle.qualified_goals.specs.declared.variable.Var.{Var}
 use Rattle.choice_problem.specs.declared.problem.Choice.{Choice}
@@ -8,7 +8,7 @@ use Rattle.choice_problem.specs.General.{Request, General}
 use Rattle.choice_problem.specs.Twins.{must_agree}
 use Rattle.common_laws.specs.Graphs.{HasNoCycle}
 
--- the values are those of known variables of the set, and of their domains
+-- A gives values to known variables of the set alone, each from its domain
 pub record IsAssignmentIn (g : General) (set : Var → Bool) (A : Assignment) : Type 0 where
   pub inside : (v : Var) (n : ℕ) → A v ≡ Some n → IsTrue (set v)
   pub choice : (c : Choice) → A c.var ≡ Some c.val → IsChoice g c
@@ -30,7 +30,7 @@ pub record IsAsked (g : General) (set : Var → Bool) (A : Assignment) (r : Requ
   pub yes : IsTrue (r.is_yes A)
   pub inside : IsTrue (set r.target)
 
--- demands that must agree have targets with one value
+-- where two demands must agree, A gives both targets the same value
 abbrev pub HaveOneValue : Assignment → Request → Request → Type 0
 HaveOneValue A r s = IsTrue (must_agree r.owner r.target s.owner s.target) → A r.target ≡ A s.target
 

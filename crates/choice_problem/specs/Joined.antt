@@ -1,4 +1,4 @@
--- Problems that differ in how the conditions of their demands are written, and in nothing that is valid.
+-- Problems that differ only in how conditions are written have the same valid assignments.
 use Rattle.std.specs.Prelude.{◌≡◌, ◌↔◌, Bool, true}
 use Rattle.qualified_goals.specs.declared.variable.Var.{Var}
 use Rattle.choice_problem.specs.Assignment.{Assignment}
@@ -8,7 +8,7 @@ use Rattle.choice_problem.specs.Holds.{IsAssignmentIn, HoldsWithin}
 use Rattle.choice_problem.specs.Trail.{trail_of}
 use Rattle.choice_problem.specs.Valid.{IsWholeValid, ComesBefore, IsFirst}
 
--- a demand of h asks for the same, and is Yes with r under A
+-- h has a demand with r's owner, target and allowed values that is Yes under A
 pub record HasYes (h : General) (A : Assignment) (r : Request) : Type 0 where
   pub other : Request
   pub demand : IsDemand h other
@@ -17,7 +17,7 @@ pub record HasYes (h : General) (A : Assignment) (r : Request) : Type 0 where
   pub allowed : other.allowed ≡ r.allowed
   pub yes : other.is_yes A ≡ true
 
--- each demand of g that is Yes has one of h that asks for the same and is Yes
+-- for each demand of g that is Yes, h has one with the same owner, target and allowed values that is Yes
 abbrev pub IsYesIn : General → General → Type 0
 IsYesIn g h = (A : Assignment) (r : Request) → IsDemand g r → r.is_yes A ≡ true → HasYes h A r
 
@@ -31,7 +31,7 @@ pub record AreYesTogether (g h : General) : Type 0 where
   pub there : IsYesIn g h
   pub back : IsYesIn h g
 
--- what is valid is one and the same; trails are compared where values are those of known variables and of their domains
+-- the same valid assignments and first ones; trails are the same for assignments of known variables to domain values
 pub record AreOne (g h : General) : Type 0 where
   pub holds : (set : Var → Bool) (A : Assignment) → HoldsWithin g set A ↔ HoldsWithin h set A
   pub trails : (A : Assignment) → IsAssignmentIn g g.known A → trail_of g A ≡ trail_of h A

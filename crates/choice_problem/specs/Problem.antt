@@ -1,10 +1,10 @@
--- A problem of choices, as the functions that its answers are, and the laws that it keeps.
+-- A problem of choices as functions, and the laws of a lawful problem.
 use Rattle.std.specs.Prelude.{◌≡◌, ℕ, ◌<◌, ◌≤◌, Bool, IsTrue, List, [], ◌∷◌, length, All, AllPairs, Contains, ◌⊎◌, ◌≢◌}
 use Rattle.qualified_goals.specs.declared.variable.Var.{Var}
 use Rattle.choice_problem.specs.declared.problem.Choice.{Choice}
 use Rattle.choice_problem.specs.declared.problem.Demand.{Demand}
 
--- the answers of a problem with demands of some kind; at most bound variables are known
+-- a problem as functions, with demands of some type; at most bound variables are known
 pub record ProblemOf (D : Type 0) : Type 0 where
   pub bound : ℕ
   pub known : Var → Bool
@@ -33,7 +33,7 @@ pub record IsOrderBelow (n : ℕ) (values : List ℕ) : Type 0 where
   pub each : (x : ℕ) → x < n → Contains values x
   pub once : AllPairs (λ x y. x ≢ y) values
 
--- a list of at most bound variables that holds each known one
+-- a list of at most bound variables that contains each known one
 pub record IsBounded {D : Type 0} (p : ProblemOf D) : Type 0 where
   pub variables : List Var
   pub count : length variables ≤ p.bound
@@ -60,7 +60,7 @@ pub record IsOwned (p : Problem) (owner : Choice) (d : Demand) : Type 0 where
   pub beside : All (IsBeside owner) others
   pub target : IsTrue (p.known d.target)
 
--- the laws
+-- the laws of a problem
 pub record Lawful (p : Problem) : Type 0 where
   pub bounded : IsBounded p
   pub order : IsOrdered p

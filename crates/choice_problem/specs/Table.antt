@@ -5,14 +5,14 @@ use Rattle.std.specs.BTreeMap.{is_at}
 use Rattle.qualified_goals.specs.declared.variable.Var.{Var}
 use Rattle.qualified_goals.specs.Variable.{var_cmp, same_var}
 
--- what the entries have at a variable
+-- the entry of a variable
 abbrev pub entry : List (Var × ℕ) → Var → Option ℕ
 entry entries v = lookup (is_at (var_cmp v)) entries
 
--- a table with an entry of a variable
+-- the map with this entry of a variable
 abbrev pub with_entry : Var → ℕ → (Var → Option ℕ) → Var → Option ℕ
 with_entry v n old w = cond (same_var v w) (Some n) (old w)
 
--- a table without the entry of a variable
+-- the map without the entry of a variable
 abbrev pub without_entry : Var → (Var → Option ℕ) → Var → Option ℕ
 without_entry v old w = cond (same_var v w) None (old w)

@@ -12,12 +12,12 @@ use Rattle.choice_problem.specs.Twins.{is_of_package}
 use Rattle.choice_problem.specs.General.{Request, General}
 use Rattle.choice_problem.specs.ConflictSet.{first_of, set_of}
 
--- the choices of a trail as a map
+-- the choices of a trail as an assignment
 abbrev pub value_in : List Choice → Assignment
 value_in [] v = None
 value_in (c ∷ trail) v = cond (same_var c.var v) (Some c.val) (value_in trail v)
 
--- each choice is of a variable that the choices before it leave open to choose
+-- each choice is of a variable that has no value under the choices before it
 pub data AreNew : List Choice → Type 0 where
   before_any : AreNew []
   one_more : {before : List Choice} {all : List Choice} → AreNew before → (c : Choice) → value_in before c.var ≡ None → all ≡ before ++ c ∷ [] → AreNew all
@@ -26,7 +26,7 @@ pub data AreNew : List Choice → Type 0 where
 abbrev pub AreOfDifferentVars : List Choice → Type 0
 AreOfDifferentVars choices = AllPairs (λ c d. c.var ≢ d.var) choices
 
--- what a trail keeps of its choices: each is of another variable, one table has their values, and another those of each package's instances
+-- a trail's invariant: no variable twice; one table has the values, the other the choices of each package's instances
 pub record IsTrail {S : Type 0} (choices : List Choice) (table : List (Var × ℕ)) (instances : IndexMap ℕ (List Choice) S) : Type 0 where
   pub new : AreNew choices
   pub values : (v : Var) → entry table v ≡ value_in choices v
@@ -36,7 +36,7 @@ pub record IsTrail {S : Type 0} (choices : List Choice) (table : List (Var × �
 abbrev pub with_instance : Choice → ℕ → List Choice → List Choice
 with_instance c n instances = instances ++ filter (is_of_package n) (c ∷ [])
 
--- those without the last, where the choice is it
+-- the instances without the last one, where the choice is of this package
 abbrev pub without_instance : Choice → ℕ → List Choice → List Choice
 without_instance c n instances = cond (is_of_package n c) (all_but_last instances) instances
 
@@ -60,12 +60,12 @@ next_var g trail = first_of (open_vars g trail)
 abbrev pub choice_of : Var → ℕ → Choice
 choice_of v n = record { var = v; val = n }
 
--- what comes after the least open variable was looked for
+-- some applied to the variable, or none
 abbrev pub with_next : {X : Type 0} → Option Var → X → (Var → X) → X
 with_next None none some = none
 with_next (Some v) none some = some v
 
--- what comes after a value was looked for
+-- some applied to the value, or none
 abbrev pub with_value : {X : Type 0} → Option ℕ → X → (ℕ → X) → X
 with_value None none some = none
 with_value (Some n) none some = some n

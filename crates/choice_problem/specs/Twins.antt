@@ -1,4 +1,4 @@
--- Instances that are used once: which demands must give their targets one value.
+-- Twins: which demands must give their targets the same value.
 use Rattle.std.specs.Prelude.{ℕ, Bool, true, false, not, ◌&&◌, nat_eq, Option, Some, None}
 use Rattle.qualified_goals.specs.declared.variable.Part.{Part}
 use Rattle.qualified_goals.specs.declared.variable.Part.TheVariants.{Package, Flag, Tests, Benches}
@@ -25,7 +25,7 @@ under c v = record v { qual = c.var.qual }
 abbrev pub are_twins : Choice → Choice → Bool
 are_twins c d = is_whole c.var.part && (same_var (under d c.var) d.var && (not (same_var c.var d.var) && nat_eq c.val d.val))
 
--- whether twins ask for one part of one package, each under its own qualifier
+-- whether the choices are twins, and both targets are one part of one package, each under its own choice's qualifier
 abbrev pub ask_alike : Choice → Var → Choice → Var → Bool
 ask_alike c v d w = are_twins c d && (same_var (under c v) v && same_var (under d v) w)
 

@@ -1,4 +1,4 @@
--- Whole valid assignments, and the first of them.
+-- Complete, valid assignments, and the first of them.
 use Rattle.std.specs.Prelude.{◌≡◌, ◌↔◌, ℕ, IsSome, List, ◌∷◌, ◌++◌, Contains, map}
 use Rattle.qualified_goals.specs.declared.variable.Var.{Var}
 use Rattle.choice_problem.specs.declared.problem.Choice.{Choice}
@@ -16,7 +16,7 @@ pub record IsWholeValid (g : General) (A : Assignment) : Type 0 where
 abbrev pub IsEarlier : List ℕ → ℕ → ℕ → Type 0
 IsEarlier values m n = (front : List ℕ) × (between : List ℕ) × (rest : List ℕ) × (values ≡ front ++ (m ∷ between ++ (n ∷ rest)))
 
--- at the first place at which the trails differ, the value of A comes earlier in the variable's order
+-- where the trails first differ, they have one variable, and the value of A comes earlier in its order
 pub record ComesBefore (g : General) (A B : Assignment) : Type 0 where
   pub common : List Choice
   pub var : Var
@@ -28,7 +28,7 @@ pub record ComesBefore (g : General) (A B : Assignment) : Type 0 where
   pub trail_of_B : trail_of g B ≡ common ++ choice_of var of_B ∷ rest_of_B
   pub earlier : IsEarlier (g.order var common) of_A of_B
 
--- A is whole and valid, and no whole valid assignment comes before it
+-- A is complete and valid, and no complete, valid assignment comes before it
 pub record IsFirst (g : General) (A : Assignment) : Type 0 where
   pub whole_valid : IsWholeValid g A
   pub none_before : (B : Assignment) → IsWholeValid g B → ComesBefore g B A → ⊥

@@ -1,4 +1,4 @@
--- Problems written out as lists.
+-- Problems as lists.
 use Rattle.std.specs.Prelude.{◌≢◌, ℕ, zero, suc, Bool, true, false, cond, not, ◌&&◌, nat_eq, nat_lt, List, [], ◌∷◌, length, filter, All, AllPairs}
 use Rattle.std.specs.Ordering.{is_eq}
 use Rattle.std.specs.List.{list_all, list_any}
@@ -9,7 +9,7 @@ use Rattle.choice_problem.specs.declared.written.WrittenVar.{WrittenVar}
 use Rattle.qualified_goals.specs.Variable.{qual_cmp, same_var}
 use Rattle.choice_problem.specs.Problem.{Problem, IsOrderBelow, IsRoot, IsOwned}
 
--- whether a number is one of these
+-- whether the number is one of the values
 abbrev pub is_among : List ℕ → ℕ → Bool
 is_among values n = list_any (λ m. nat_eq m n) values
 
@@ -17,12 +17,12 @@ is_among values n = list_any (λ m. nat_eq m n) values
 abbrev pub is_listed : List WrittenVar → Var → Bool
 is_listed variables v = list_any (λ w. same_var w.var v) variables
 
--- its values, the best first
+-- the values of a variable, the best first
 abbrev pub order_of : List WrittenVar → Var → List ℕ
 order_of [] v = []
 order_of (w ∷ variables) v = cond (same_var w.var v) w.order (order_of variables v)
 
--- those that may not be chosen
+-- the barred values of a variable
 abbrev pub barred_of : List WrittenVar → Var → List ℕ
 barred_of [] v = []
 barred_of (w ∷ variables) v = cond (same_var w.var v) w.barred (barred_of variables v)
@@ -32,7 +32,7 @@ abbrev pub begins_with : Choice → List Choice → Bool
 begins_with owner [] = false
 begins_with owner (c ∷ others) = same_var c.var owner.var && nat_eq c.val owner.val
 
--- the problem that is written out by these lists
+-- the problem of these lists
 abbrev pub problem_of : List WrittenVar → List Demand → List Demand → Problem
 problem_of variables roots demands = record {
   bound = length variables;
@@ -51,14 +51,14 @@ pub record AreLawful (variables : List WrittenVar) (roots demands : List Demand)
   pub roots_are : All (IsRoot (problem_of variables roots demands)) roots
   pub demands_are : All (λ d. (owner : Choice) × IsOwned (problem_of variables roots demands) owner d) demands
 
--- the same as tests
+-- the laws as tests
 
 -- whether each number below n is among the values
 abbrev pub has_each_below : ℕ → List ℕ → Bool
 has_each_below zero values = true
 has_each_below (suc n) values = is_among values n && has_each_below n values
 
--- whether each value stands once
+-- whether no value is repeated
 abbrev pub is_once : List ℕ → Bool
 is_once [] = true
 is_once (n ∷ values) = not (is_among values n) && is_once values

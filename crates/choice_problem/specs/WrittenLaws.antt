@@ -34,7 +34,7 @@ each-at (suc n) values h x below =
       | inr last ↦ let same : n ≡ x = omega arith in subst (λ m. Contains values m) same (among-at values n ((and_parts (is_among values n) (has_each_below n values) h).0))
     ]
 
--- what holds each number below a bound passes the test
+-- a list that contains each number below a bound passes the test
 pub each-from : (n : ℕ) (values : List ℕ) → ((x : ℕ) → x < n → Contains values x) → has_each_below n values ≡ true
 each-from zero values h = refl
 each-from (suc n) values h = and_from (is_among values n) (has_each_below n values) (among-from values n (h n (omega arith))) (each-from n values (λ x less. h x (omega (arith, less))))

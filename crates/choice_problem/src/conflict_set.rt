@@ -1,4 +1,4 @@
-// Sets of variables, with which a conflict names what is to blame.
+// Sets of variables, as conflicts have them.
 ghost use Rattle.std.specs.Prelude.{◌≡◌, [], IfOk, OnOk, IsTrue, if◌then◌else◌};
 ghost use Rattle.qualified_goals.specs.Variable.{is_before};
 ghost use Rattle.choice_problem.specs.ConflictSet.{is_rising, has, with_var, without, set_of, union, front_of, behind};
@@ -64,7 +64,7 @@ impl ConflictSet {
         stands_at(vars, place_of(vars, v), v)
     }
 
-    /// The set of what is in either.
+    /// The union of two sets.
     pub fn union(&self, alloc: Global, other: &ConflictSet) -> Result<ConflictSet, NoMemory>
         ensures { IfOk result (λ both. both ≡ union self.now other.now) }
     {
@@ -73,7 +73,7 @@ impl ConflictSet {
         })
     }
 
-    /// The same set.
+    /// A copy of the set.
     pub fn copy(&self, alloc: Global) -> Result<ConflictSet, NoMemory>
         ensures { IfOk result (λ copied. copied ≡ self.now) }
     {
@@ -82,7 +82,7 @@ impl ConflictSet {
         })
     }
 
-    /// The set but for one variable.
+    /// The set without one variable.
     pub fn without(&self, alloc: Global, v: Var) -> Result<ConflictSet, NoMemory>
         ensures { IfOk result (λ others. others ≡ without v self.now) }
     {
@@ -131,7 +131,7 @@ fn rising(alloc: Global, vars: &[Var]) -> Result<Vec<Var>, NoMemory>
     Ok(set)
 }
 
-// What is in either of two rising lists, of which the lesser front goes first.
+// The union of two rising lists, merged by the lesser front.
 fn merged(alloc: Global, left: &[Var], right: &[Var]) -> Result<Vec<Var>, NoMemory>
     requires left { IsTrue (is_rising left.now) }
     requires right { IsTrue (is_rising right.now) }
@@ -166,7 +166,7 @@ fn lesser(v: Var, w: Var) -> Var
     if is_before(w, v) { w } else { v }
 }
 
-// What follows a variable, where it is the first.
+// The list without its first variable, where that is `v`.
 fn behind(vars: &[Var], v: Var) -> &[Var]
     ensures { result.now ≡ behind v vars.now }
 {

@@ -1,7 +1,7 @@
-//! Problems of choices. A problem has variables with numbered values, values that are barred, and demands: a
-//! demand asks that its target has one of some values, once all choices of its `when` are made. What is valid, which
-//! of the valid assignments is the first, which set of choices is to blame where there is none, and what a search
-//! counts on its way are definitions, and this crate proves the laws that join them.
+//! Problems of choices: variables with numbered values, barred values and demands. Once all choices of a demand's
+//! `when` are made, its target must have an allowed value. Definitions have the valid assignments, the first of them,
+//! conflict sets, and the counts of a search.
+//! The crate proves the laws of these definitions: conflict sets are sound, and a search without a limit is right.
 #![tactic(auto)]
 
 mod conflict_set;

@@ -1,4 +1,4 @@
-// What a problem answers, and what it is made of.
+// Problems as a trait, with their choices and demands.
 ghost use Rattle.std.specs.Prelude.{◌≡◌, ◌++◌, IfOk, IsTrue, OnOk, All};
 ghost use Rattle.choice_problem.specs.Conflict.{named_by};
 ghost use Rattle.choice_problem.specs.Problem.{Problem, IsChoice, Lawful};
@@ -14,7 +14,7 @@ pub struct Choice {
     pub val: u64,
 }
 
-/// Where all choices of `when` are made, the target must have one of the allowed values. The first choice
+/// Once all choices of `when` are made, the target must have an allowed value. The first choice
 /// of `when` is the owner; a root has none.
 #[derive(Debug, Drop)]
 pub struct Demand {
@@ -23,7 +23,7 @@ pub struct Demand {
     pub allowed: List<u64>,
 }
 
-/// Puts the variables that a demand names behind others: its target, and those of its condition.
+/// Appends the variables that a demand names: its target, then those of its condition.
 pub fn push_named(named: &mut Vec<Var>, demand: &Demand) -> Result<(), NoMemory>
     ensures { OnOk result (named.new.items ≡ named.old.items ++ named_by demand.now) }
 {
@@ -34,7 +34,7 @@ pub fn push_named(named: &mut Vec<Var>, demand: &Demand) -> Result<(), NoMemory>
     Ok(())
 }
 
-/// A problem of choices. Each answer is a function of the arguments, which `problem` collects.
+/// A problem of choices. Each method computes the function of that name in `problem`.
 pub trait Choices {
     ghost problem: { Self → Problem };
 
@@ -47,17 +47,17 @@ pub trait Choices {
         requires { IsTrue ((problem self.now).known v) }
         ensures { result ≡ (problem self.now).domain v };
 
-    /// The demands that hold before anything is chosen.
+    /// The demands without a condition.
     fn roots(&self, alloc: Global) -> Result<List<Demand>, NoMemory>
         ensures { IfOk result (λ found. found ≡ (problem self.now).roots) };
 
-    /// The values of a variable, the best first, after the choices of a trail.
+    /// The values of a variable after the choices of a trail, the best first.
     fn order(&self, alloc: Global, v: Var, trail: &Trail) -> Result<List<u64>, NoMemory>
         requires variable { IsTrue ((problem self.now).known v) }
         requires choices { All (IsChoice (problem self.now)) trail.now }
         ensures { IfOk result (λ found. found ≡ (problem self.now).order v trail.now) };
 
-    /// Whether a value may not be chosen, whatever else is.
+    /// Whether the choice is barred, whatever else is chosen.
     fn barred(&self, c: Choice) -> bool
         requires { IsChoice (problem self.now) c }
         ensures { result ≡ (problem self.now).barred c };

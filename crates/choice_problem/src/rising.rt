@@ -1,10 +1,10 @@
-// Lists of variables in goal order, each once: at which place of one a variable stands.
+// The place of a variable in a list in goal order with each variable once.
 ghost use Rattle.std.specs.Prelude.{◌≡◌, IsTrue};
 ghost use Rattle.choice_problem.specs.ConflictSet.{is_rising, has, place_of};
 
 use crate::{Var, is_before, is_same};
 
-/// The first place whose variable isn't before this one, found by halves.
+/// The first place whose variable isn't before this one, by binary search.
 pub(crate) fn place_of(vars: &[Var], v: Var) -> usize
     requires { IsTrue (is_rising vars.now) }
     ensures { result ≡ place_of v vars.now }
@@ -12,7 +12,7 @@ pub(crate) fn place_of(vars: &[Var], v: Var) -> usize
     vars.partition_point(|w| is_before(*w, v))
 }
 
-/// Whether a variable stands at its place.
+/// Whether the list has the variable at its place.
 pub(crate) fn stands_at(vars: &[Var], place: usize, v: Var) -> bool
     requires rising { IsTrue (is_rising vars.now) }
     requires place { place ≡ place_of v vars.now }

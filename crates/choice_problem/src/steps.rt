@@ -1,10 +1,10 @@
-// How many values were tried.
+// The number of values tried.
 ghost use Rattle.std.specs.Prelude.{◌≡◌, ◌+◌, ◌<◌};
 
 use std::marker::Model;
 use std::sync::ledger::{Blank, Book, Ledger, Share};
 
-/// How many choices were tried. It takes no bytes, and only `tick` changes it.
+/// The number of choices tried. It takes no bytes, and only `tick` changes it.
 #[derive(Drop)]
 pub struct Steps<L: Ledger> {
     book: Book<L>,
@@ -22,7 +22,7 @@ impl<L: Ledger> Model for Steps<L> {
 }
 
 impl<L: Ledger> Steps<L> {
-    /// A counter over a new ledger, with no try counted so far.
+    /// A counter at 0, over a new ledger.
     pub fn open(blank: Blank) -> Steps<L>
         requires name { blank.name ≡ L.name }
         requires parts { blank.parts ≡ L.parts }

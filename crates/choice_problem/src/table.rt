@@ -9,7 +9,7 @@ use std::alloc::Global;
 use std::collections::BTreeMap;
 use std::marker::Model;
 
-/// A number for some variables, seen as its entries.
+/// A partial map from variables to numbers, seen as its entries.
 pub struct Table {
     entries: BTreeMap<Var, u64>,
 }

@@ -15,7 +15,7 @@ use qualified_goals::Part;
 use std::alloc::Global;
 use std::marker::Model;
 
-/// The choices of a search, in the order in which they were made, each of another variable.
+/// The choices of a search, in the order in which they were made. No two are of one variable.
 pub struct Trail {
     choices: List<Choice>,
     values: Table,
@@ -66,7 +66,7 @@ impl Trail {
         &self.choices
     }
 
-    /// The choices alone.
+    /// The choices as a list, without the tables.
     pub fn into_choices(self) -> List<Choice>
         ensures choices { result ≡ self }
         ensures different { AreOfDifferentVars result }
@@ -114,7 +114,7 @@ impl Trail {
         Ok(())
     }
 
-    /// Takes the last choice off. It takes no memory.
+    /// Removes the last choice. It allocates no memory.
     pub fn pop(&mut self) -> Option<Choice>
         ensures { MatchOption result ((self.old ≡ []) × (self.new ≡ [])) (λ c. self.old ≡ self.new ++ c ∷ []) }
     {
@@ -127,7 +127,7 @@ impl Trail {
     }
 }
 
-// Keeps a choice of a variable that has no value yet in both tables.
+// Adds a choice of a variable that has no value yet to both tables.
 fn keep(
     alloc: Global,
     values: &mut Table,

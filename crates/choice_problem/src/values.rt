@@ -6,7 +6,7 @@ ghost use Rattle.choice_problem.specs.Twins.{is_of_package};
 use crate::{Choice, Trail, Var, is_same};
 use std::marker::Model;
 
-/// The choices of a trail, and one more behind them where one is given.
+/// The choices of a trail, followed by at most one more.
 #[derive(Drop)]
 pub struct Values<'a> {
     trail: &'a Trail,
@@ -32,7 +32,7 @@ impl<'a> Values<'a> {
         Values { trail, last: None }
     }
 
-    /// Those with a choice of a variable more that has no value yet.
+    /// The trail's choices, followed by a choice of a variable that has no value yet.
     pub fn with(trail: &'a Trail, c: Choice) -> Values<'a>
         requires { value_in trail.now c.var ≡ None }
         ensures { result ≡ trail.now ++ c ∷ [] }
@@ -56,7 +56,7 @@ impl<'a> Values<'a> {
         self.trail.value_of(v)
     }
 
-    /// The choices of a package's instances that the trail has, and the choice behind it.
+    /// The trail's choices of a package's instances, and the choice behind the trail.
     pub fn instances_of(&self, package: u64) -> (&[Choice], Option<Choice>)
         ensures { filter (is_of_package «package») self.now
             ≡ result.0.now ++ filter (is_of_package «package») (option_to_list result.1) }

@@ -1,4 +1,4 @@
-// A problem that is written out as lists.
+// Problems as lists.
 ghost use Rattle.std.specs.Prelude.{◌≡◌, ◌&&◌, IfOk, IsTrue, MatchOption, filter, length, nat_lt};
 ghost use Rattle.std.specs.List.{list_all};
 ghost use Rattle.choice_problem.specs.Written.{is_among, is_listed, order_of, barred_of, begins_with, problem_of};
@@ -9,7 +9,7 @@ use crate::{Choice, Choices, Demand, Trail, Var, is_same};
 use plan_types::{List, NoMemory};
 use std::alloc::Global;
 
-/// A variable with all its values, the best first, and those that may not be chosen.
+/// A variable with all its values, the best first, and its barred values.
 #[derive(Debug, Drop)]
 pub struct WrittenVar {
     pub var: Var,
@@ -220,7 +220,7 @@ fn owned(alloc: Global, demands: &[Demand], owner: Choice) -> Result<List<Demand
     Ok(found)
 }
 
-/// A problem that is written out as lists. The known variables are those that are listed.
+/// A problem as lists. The known variables are those that are listed.
 #[derive(Debug, Drop)]
 pub struct Written {
     variables: List<WrittenVar>,
@@ -230,7 +230,7 @@ pub struct Written {
 }
 
 impl Written {
-    /// The problem of these lists. There is none where a variable is listed twice, an order isn't a permutation
+    /// The problem of these lists. `None` where a variable is listed twice, an order isn't a permutation
     /// of the numbers below its length, or a root or a demand breaks a law.
     pub fn new(
         variables: List<WrittenVar>,

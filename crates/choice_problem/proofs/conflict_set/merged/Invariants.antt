@@ -1,4 +1,4 @@
--- what was put in, and then what is in either of what is left
+-- the merged variables, followed by the union of the rests
 use Rattle.std.proofs.Common.{◌≡◌, ◌++◌, ◌+◌, true, length}
 use Rattle.choice_problem.specs.ConflictSet.{is_rising, union}
 use Rattle.choice_problem.proofs.conflict_set.merged.Given as goal

@@ -1,4 +1,4 @@
--- the variables that are passed are put in
+-- the set of the variables so far
 use Rattle.std.proofs.Common.{◌≡◌, ◌≤◌, drop, length}
 use Rattle.choice_problem.specs.ConflictSet.{set_of}
 use Rattle.choice_problem.proofs.conflict_set.rising.Given as goal

@@ -1,4 +1,4 @@
--- a search without a limit ends with the first whole valid assignment, or where there is none
+-- a search without a limit finds the first complete, valid assignment, or none exists
 use Rattle.choice_problem.proofs.SearchEnds.{ends-right}
 use Rattle.choice_problem.proofs.laws.ends_right.Goals as goal
 

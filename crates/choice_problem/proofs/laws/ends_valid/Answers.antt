@@ -1,4 +1,4 @@
--- whoever picks, a search without a limit ends with a whole valid assignment, or where there is none
+-- with any guide, a search without a limit finds a complete, valid assignment, or none exists
 use Rattle.choice_problem.proofs.SearchEnds.{ends-valid}
 use Rattle.choice_problem.proofs.laws.ends_valid.Goals as goal
 

@@ -1,4 +1,4 @@
--- a problem that keeps the laws keeps them as a general one
+-- a lawful problem is lawful as a general one
 use Rattle.choice_problem.proofs.TrailLemmas.{general-lawful}
 use Rattle.choice_problem.proofs.laws.general_is_lawful.Goals as goal
 
