@@ -1,4 +1,4 @@
--- Shared: mentions as cells: the variables of entries, the numbers of the cells of an entry, a cell more or less, and the walk along a chain.
+-- Shared: mentions as cells: an entry's variable and cells, a cell added or removed, the walk along a chain.
 use Rattle.std.proofs.Common.{◌≡◌, ℕ, zero, suc, ◌+◌, ◌<◌, ◌≤◌, arith, length, take, drop, get_or, eqb, eqb-true, eq-eqb, true, false, cond, ◌||◌, List, [], ◌∷◌, ◌++◌, Option, Some, None, is_some, IfSome, map, filter, refl, sym, ap, ◌∙◌, subst, inl, inr, ◌⊎◌, append_assoc, append-nil, length-append}
 use Rattle.std.specs.List.{Contains, slice_get}
 use Rattle.std.proofs.Math.ListN.{set}
@@ -98,7 +98,7 @@ numbers-none n entry (x ∷ cells) other =
       | false ↦ λ e. numbers-none (suc n) entry cells (λ k lt. other (suc k) (omega (arith, lt)))
     ] refl
 
--- the places of an entry's cells are those that its variable's mentions have
+-- an entry's cells have the places of its variable's mentions
 
 module _ (vars : List Var) (once : (m n : ℕ) → m < length vars → n < length vars → var_at vars m ≡ var_at vars n → m ≡ n) (entry : ℕ) (fits : entry < length vars) where
   places-from : (front cells all : List Cell) → all ≡ front ++ cells → ((k : ℕ) → k < length all → (cell_at all k).entry < length vars)
@@ -164,7 +164,7 @@ chain-has s h once entry v at =
     ∙ has-from s.vars once entry lt 0 s.cells h.within
     ∙ ap (λ l. is_some (first_of l)) (sym (h.chains entry lt))
 
--- what has no entry isn't mentioned
+-- a variable without an entry isn't mentioned
 module _ (vars : List Var) (v : Var) (fresh : has vars v ≡ false) where
   not-at : (n : ℕ) → n < length vars → same_var (var_at vars n) v ≡ false
   not-at n lt =
@@ -223,7 +223,7 @@ registered-mentions s v h =
 abbrev pub with_front : Entries → List Cell → Entries
 with_front s cells = record s { cells = cells }
 
--- a cell more
+-- a cell added
 
 at-last : (cells : List Cell) (x : Cell) (k : ℕ) → k < length (cells ++ x ∷ []) → ((k < length cells) × (cell_at (cells ++ x ∷ []) k ≡ cell_at cells k)) ⊎ (cell_at (cells ++ x ∷ []) k ≡ x)
 at-last cells x k lt =
@@ -272,7 +272,7 @@ module _ (s : Entries) (cell : Cell) (h : AreMentions s) (fits : cell.entry < le
             ∙ sym (numbers-push 0 e s.cells cell);
       }
 
--- a cell less
+-- a cell removed
 
 module _ (s : Entries) (front : List Cell) (cell : Cell) (h : AreMentions s) (parts : s.cells ≡ front ++ cell ∷ []) where
   last-entry : (cell_at s.cells (length front)).entry ≡ cell.entry
@@ -343,7 +343,7 @@ module _ (s : Entries) (n : ℕ) (h : AreSaid s n) where
   pub all-mentioned : mentions (used n s) ++ map (mention_in s.vars) (drop n s.cells) ≡ mentions s
   all-mentioned = sym (map-append (mention_in s.vars) (take n s.cells) (drop n s.cells)) ∙ ap (map (mention_in s.vars)) (take-append-drop n s.cells)
 
-  -- the entry of what is mentioned at a place
+  -- the entry of the mention with an index
   pub mention-entry : (k : ℕ) (m : Mention) → k < length s.cells → slice_get (mentions (used n s) ++ map (mention_in s.vars) (drop n s.cells)) k ≡ Some m
       → slice_get s.vars (cell_at s.cells k).entry ≡ Some m.var
   mention-entry k m lt e =
@@ -418,7 +418,7 @@ module _ (s u : Entries) (n : ℕ) (h : AreSaid s n) (more : n < length s.cells)
       ap (λ (x : Entries). map (mention_in x.vars) (drop (n + 1) x.cells)) is
       ∙ ap (λ l. drop 1 (map (mention_in s.vars) l)) (sym (drop-more s.cells n no_cell more))
 
--- the last one in use is taken off
+-- the last cell in use is removed
 
 module _ (s u : Entries) (n : ℕ) (h : AreSaid s (n + 1)) (is : u ≡ shortened s n) where
   there : n < length s.cells
@@ -458,7 +458,7 @@ module _ (s u : Entries) (n : ℕ) (h : AreSaid s (n + 1)) (is : u ≡ shortened
       ap (map (mention_in s.vars)) parted-cells ∙ map-append (mention_in s.vars) (take n s.cells) (last ∷ [])
       ∙ ap (λ (x : Entries). mentions (used n x) ++ mention_in s.vars last ∷ []) (sym is)
 
--- what is made ready
+-- the mentions that are made ready
 
 registered-used : (n : ℕ) (s : Entries) (v : Var) → used n (registered s v) ≡ registered (used n s) v
 registered-used n s v =
@@ -483,7 +483,7 @@ registered-row s v =
       }
     ]
 
--- what is mentioned stays when a variable is registered
+-- registering a variable leaves the mentions unchanged
 same-mentions : (vars more : List Var) (cells : List Cell) → ((k : ℕ) → k < length cells → (cell_at cells k).entry < length vars) → map (mention_in (vars ++ more)) cells ≡ map (mention_in vars) cells
 same-mentions vars more cells within = map-alike (mention_in (vars ++ more)) (mention_in vars) cells (λ k x e.
     let less : x.entry < length vars = subst (λ (y : Cell). y.entry < length vars) (get_or_from_slice_get cells k x no_cell e) (within k (slice_get_within cells k x e)) in
@@ -519,7 +519,7 @@ module _ (s : Entries) (n : ℕ) (v : Var) (h : AreSaid s n) where
       drop-map (suc n) f [] = refl
       drop-map (suc n) f (x ∷ xs) = drop-map n f xs
 
--- a cell behind those in use is another
+-- a cell behind those in use is replaced
 module _ (s u : Entries) (n i : ℕ) (cell : Cell) (h : AreSaid s n) (fits : cell.entry < length s.vars) (lt : n + i < length s.cells) (is : u ≡ with_cell_at s (n + i) cell) where
   set-front : take n (set s.cells (n + i) cell) ≡ take n s.cells
   set-front = take-set-le n s.cells (n + i) cell (omega arith)
@@ -557,7 +557,7 @@ module _ (s u : Entries) (n i : ℕ) (cell : Cell) (h : AreSaid s n) (fits : cel
   set-count =
       omega (arith, lt, length-map (drop n u.cells) (mention_in u.vars), length-drop n u.cells, ap (λ (x : Entries). length x.cells) is, length-set s.cells (n + i) cell)
 
--- a cell more behind those in use
+-- a cell added behind those in use
 module _ (s u : Entries) (n i : ℕ) (cell : Cell) (h : AreSaid s n) (fits : cell.entry < length s.vars) (last : n + i ≡ length s.cells) (is : u ≡ with_cell s cell) where
   pub added-said : AreSaid u n
   added-said = subst (λ (x : Entries). AreSaid x n) (sym is) (record {
@@ -594,7 +594,7 @@ module _ (s u : Entries) (n i : ℕ) (cell : Cell) (h : AreSaid s n) (fits : cel
 
 -- the walk along a chain
 
--- what a walk has before it
+-- the rest of a walk
 abbrev pub walk_from : List ℕ → Option ℕ → List ℕ
 walk_from chain None = []
 walk_from chain (Some k) = k ∷ behind (Some k) chain
@@ -621,7 +621,7 @@ pub record IsOnChain (s : Entries) (entry : ℕ) (at : Option ℕ) : Type 0 wher
   pub linked : IfSome at (λ k. has_node (chain_with s k) k ≡ true)
   pub owner : IfSome at (λ k. (cell_at s.cells k).entry ≡ entry)
 
--- what is left from a cell on is that cell, and what is left from the next one on
+-- the rest from a cell on is that cell and the rest from the next one on
 pub walk-on : (s : Entries) (entry : ℕ) → AreOnce None (chain_at s.chains entry) → (at next : Option ℕ) (k : ℕ) → IsOnChain s entry at → at ≡ Some k
     → next ≡ first_of (behind (Some k) (chain_with s k)) → walk_from (chain_at s.chains entry) at ≡ k ∷ walk_from (chain_at s.chains entry) next
 walk-on s entry once at next k on is then =

@@ -1,4 +1,4 @@
--- Chains: what one that changes leaves of the others.
+-- A change of one chain leaves the others unchanged.
 use Rattle.std.proofs.Common.{◌≡◌, ℕ, zero, suc, ◌+◌, ◌<◌, arith, length, eqb, eqb-true, eq-eqb, true, false, cond, List, [], ◌∷◌, ◌++◌, Option, Some, None, IfSome, IsTrue, refl, sym, ap, ◌∙◌, subst, inl, inr, ◌⊎◌, get_or, take, drop, append-nil}
 use Rattle.std.specs.List.{Contains}
 use Rattle.std.proofs.Math.ListN.{set}
@@ -26,7 +26,7 @@ chain-is ends nodes entry h = get_or-map (λ e. ring_of e nodes) ends entry no_n
 pub chain-fits : (ends nodes : List RingNode) (chains : List (List ℕ)) (entry : ℕ) → chains_of ends nodes ≡ chains → entry < length chains → entry < length ends
 chain-fits ends nodes chains entry e h = omega (arith, h, ap length e, length-map ends (λ (x : RingNode). ring_of x nodes))
 
--- one chain changes, and the nodes of others don't
+-- one chain changes, and the others' nodes don't
 pub chain-changed : (ends nodes nodes2 : List RingNode) (cells : List Cell) (entry : ℕ) (end2 : RingNode) (ns2 : List ℕ) → AreChains ends nodes cells → entry < length ends
     → length nodes2 ≡ length nodes → IsRing end2 nodes2 (ring_of end2 nodes2) → ring_of end2 nodes2 ≡ ns2
     → ((k : ℕ) → Contains ns2 k → (cell_at cells k).entry ≡ entry)
@@ -83,7 +83,7 @@ chain-changed ends nodes nodes2 cells entry end2 ns2 h within len ring is owned 
           ] refl),
     )
 
--- the ends and the nodes of one entry more
+-- the ends and nodes with one more entry
 
 alone-ring : (nodes : List RingNode) → ring_of no_node nodes ≡ []
 alone-ring nodes = ring-is no_node nodes [] (refl, refl)
@@ -145,7 +145,7 @@ cell-pushed ends nodes nodes2 cells cells2 cell e f fits h =
       ap (chains_of ends) e ∙ chains-same ends nodes pushed same,
     )
 
--- another cell in the place of one that is in no chain
+-- a cell in no chain is replaced
 pub cell-set : (ends nodes : List RingNode) (cells : List Cell) (place : ℕ) (cell : Cell) → AreChains ends nodes cells → place < length cells → cell.entry < length ends
     → has_node (chain_at (chains_of ends nodes) (cell_at cells place).entry) place ≡ false → AreChains ends nodes (set cells place cell)
 cell-set ends nodes cells place cell h within fits out = record {
@@ -186,7 +186,7 @@ module _ (ends nodes : List RingNode) (cells : List Cell) (h : AreChains ends no
   chain-within None f = tt
   chain-within (Some n) f = let k = f [] (ring_of (ends_at ends entry) nodes) refl in omega (arith, k, h.paired)
 
-  -- the ends of a chain, and what follows a cell, are cells
+  -- the ends of a chain and the next of a cell are cells
   pub first-within : IfSome ((ends_at ends entry).next) (λ n. n < length cells)
   first-within =
       let gap = gap-within (ends_at ends entry) nodes (h.rings entry fits) [] (ring_of (ends_at ends entry) nodes) refl in
@@ -219,7 +219,7 @@ without-last [] n = refl
 without-last (x ∷ []) n = refl
 without-last (x ∷ y ∷ xs) n = ap (λ l. x ∷ l) (without-last (y ∷ xs) n)
 
--- a cell is put at the end of its chain, or taken off it
+-- a cell is appended to its chain, or removed from its end
 module _ (ends nodes : List RingNode) (cells : List Cell) (h : AreChains ends nodes cells) (cell entry : ℕ) (fits : cell < length cells) (e : entry ≡ (cell_at cells cell).entry) where
   pub entry-fits : entry < length ends
   entry-fits = subst (λ n. n < length ends) (sym e) (h.entries cell fits)
@@ -365,7 +365,7 @@ pub cell-owner : (ends nodes : List RingNode) (cells : List Cell) → AreChains 
 cell-owner ends nodes cells h entry fits now is None c = tt
 cell-owner ends nodes cells h entry fits now is (Some n) c = ap (λ (v : Chained). (cell_at v.cells n).entry) (sym is) ∙ h.owned entry n fits c
 
--- a cell that is told is one of the chain of an entry
+-- the cell, if there is one, is in the chain of this entry
 pub record Tells (now : Chained) (entry : ℕ) (o : Option ℕ) : Type 0 where
   pub within : IfSome o (λ n. n < length now.cells)
   pub linked : IfSome o (λ n. IsTrue (has_node (chain_with now n) n))
@@ -426,7 +426,7 @@ module _ (ends nodes : List RingNode) (cells : List Cell) (h : AreChains ends no
           (first-in node.next (behind (Some cell) ring)
           (told ∙ cell-next ends nodes cells h own own-fits cell in-own ∙ ap (λ (l : List ℕ). first_of (behind (Some cell) l)) (chain-is ends nodes own own-fits)))))
 
-    -- the last cell is taken off its chain
+    -- the last cell is removed from its chain
     module _ (last : last_of (chain_with now cell) ≡ Some cell) (row : Cell) (row-is : row ≡ get_or cells cell row) (mid : List RingNode) (mid-is : mid ≡ nodes)
         (end : RingNode) (end-is : end ≡ get_or ends row.entry end) where
       row-entry : row.entry ≡ (cell_at cells cell).entry
@@ -460,7 +460,7 @@ module _ (ends nodes : List RingNode) (cells : List Cell) (h : AreChains ends no
                 ∙ ap (λ (v : Chained). shortened v cell) is,
           )
 
--- a cell that comes next is in no chain
+-- a new cell is in no chain
 pub outside-all : (ends nodes : List RingNode) (cells : List Cell) → AreChains ends nodes cells → (entry : ℕ) → entry < length ends
     → has_node (chain_at (chains_of ends nodes) entry) (length cells) ≡ false
 outside-all ends nodes cells h entry fits =

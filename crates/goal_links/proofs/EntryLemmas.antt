@@ -1,4 +1,4 @@
--- Shared: entries: what stays of their variables, their order and what they keep.
+-- Shared: entries: their variables, order and kept neighbours, by variable and by number.
 use Rattle.std.proofs.Common.{◌≡◌, ℕ, zero, suc, ◌+◌, ◌<◌, arith, length, map, eqb, eqb-true, eq-eqb, true, false, cond, not, ◌&&◌, ◌||◌, List, [], ◌∷◌, ◌++◌, Option, Some, None, IfSome, IsTrue, refl, sym, ap, ◌∙◌, subst, inl, inr, ◌⊎◌}
 use Rattle.std.specs.List.{Contains, slice_get}
 use Rattle.std.specs.Option.{option_map}
@@ -30,7 +30,7 @@ slice_get-set [] i x y h = absurd (cc h)
 slice_get-set (z ∷ xs) zero x y h = refl
 slice_get-set (z ∷ xs) (suc i) x y h = slice_get-set xs i x y h
 
--- a variable put between those that are before it and those behind it
+-- a variable inserted between lesser and greater ones
 
 below-all : (v : Var) (x : Var) (xs : List Var) → is_rising (x ∷ xs) ≡ true → IfSome (last_from (Some x) xs) (λ w. is_before w v ≡ true) → is_before x v ≡ true
 below-all v x [] h k = k
@@ -59,7 +59,7 @@ with-between v (x ∷ xs) ys h k l =
     last-of-rest [] k = tt
     last-of-rest (y ∷ xs) k = k
 
--- entries of which some are linked and others keep neighbours
+-- entries: some are linked, the others keep neighbours
 abbrev pub at-entries : List Var → Chained → List Var → List (Option (Option Var × Option Var)) → Entries
 at-entries vars chains linked kept = record { vars = vars; linked = linked; kept = kept; cells = chains.cells; chains = chains.chains }
 
@@ -97,7 +97,7 @@ module _ (vars : List Var) (once : (m n : ℕ) → m < length vars → n < lengt
     pub behind-number : (n : ℕ) → n < length vars → behind_first (same_var (var_at vars n)) (map (var_at vars) ns) ≡ map (var_at vars) (behind_first (eqb n) ns)
     behind-number n h = behind-mapped (var_at vars) (same_var (var_at vars n)) (eqb n) ns (same-turned n h)
 
-    -- what is beside an entry in a rising list is around it
+    -- the neighbours of an entry in a rising list are on both sides of it
     around-from : (n : ℕ) (before : Option ℕ) (ms : List ℕ) → ((k : ℕ) → Contains ms k → k < length vars) → is_rising (map (var_at vars) ms) ≡ true → Contains ms n
         → IfSome (first_of ms) (λ x. IfSome before (λ b. (b < length vars) × (is_before (var_at vars b) (var_at vars x) ≡ true)))
         → AreAround vars (var_at vars n) (beside_from (eqb n) before ms)
@@ -134,7 +134,7 @@ module _ (vars : List Var) (once : (m n : ℕ) → m < length vars → n < lengt
         no-first [] = tt
         no-first (x ∷ ns) = tt
 
--- what contracts say of an entry, by its number
+-- contracts on an entry, by its number
 module _ (vars : List Var) (row : Line) (hint : Option ℕ) (chains : Chained) (h : AreLinks vars row hint chains) (now : Entries) (is : entries_of vars row chains ≡ now) (n : ℕ) where
   pub entry-fits : n < length now.vars → n < length vars
   entry-fits lt = subst (λ (s : Entries). n < length s.vars) (sym is) lt
@@ -142,7 +142,7 @@ module _ (vars : List Var) (row : Line) (hint : Option ℕ) (chains : Chained) (
   pub linked-number : n < length now.vars → has_node row.linked n ≡ has now.linked (var_at now.vars n)
   linked-number lt = sym (has-number vars h.once row.linked h.below n (entry-fits lt)) ∙ ap (λ (s : Entries). has s.linked (var_at s.vars n)) is
 
--- an entry is taken out
+-- an entry is unlinked
 
 module _ (vars : List Var) (row : Line) (hint : Option ℕ) (chains : Chained) (h : AreLinks vars row hint chains) (n : ℕ) (fits : n < length vars) where
   pub links-unlinked : (hint2 : Option ℕ) → has_node row.linked n ≡ true → StandsIn (without_node n row.linked) hint2 → AreLinks vars (unlinked row n) hint2 chains
@@ -172,7 +172,7 @@ module _ (vars : List Var) (row : Line) (hint : Option ℕ) (chains : Chained) (
       (map-set (option_map (sides_in vars)) row.kept n (Some (beside (eqb n) row.linked))
       ∙ ap (λ s. set (map (option_map (sides_in vars)) row.kept) n (Some s)) (sym (beside-number vars h.once row.linked h.below n fits)))
 
-  -- an entry is put between two others
+  -- an entry is linked between two others
 
   module _ (row2 : Line) (xs ys : List ℕ) (old : row.linked ≡ xs ++ ys) (new : row2.linked ≡ xs ++ n ∷ ys) (kept : row2.kept ≡ set row.kept n None)
       (left : IfSome (last_of xs) (λ m. is_before (var_at vars m) (var_at vars n) ≡ true)) (right : IfSome (first_of ys) (λ m. is_before (var_at vars n) (var_at vars m) ≡ true)) where
@@ -232,7 +232,7 @@ module _ (vars : List Var) (row : Line) (hint : Option ℕ) (chains : Chained) (
 abbrev pub pair : {X : Type 0} → Option X → Option X → Option X × Option X
 pair left right = (left, right)
 
--- in goal order no entry stands twice
+-- a list in goal order has no entry twice
 pub rising-once : (vars : List Var) (start : Option ℕ) (ns : List ℕ) → is_rising (map (var_at vars) ns) ≡ true → ((k : ℕ) → Contains ns k → start ≡ Some k → ⊥) → AreOnce start ns
 rising-once vars start [] rising h = tt
 rising-once vars start (n ∷ ns) rising h = (
@@ -299,7 +299,7 @@ module _ (vars : List Var) (row : Line) (hint : Option ℕ) (chains : Chained) (
   first-below [] lt = tt
   first-below (x ∷ xs) lt = lt x (contains-head x xs)
 
-  -- what is kept by its variables is kept by its numbers
+  -- neighbours kept as variables are kept as numbers
   kept-number : (o : Option (Option (Option ℕ × Option ℕ))) (sides : Option Var × Option Var) → option_map (option_map (sides_in vars)) o ≡ Some (Some sides)
       → (ns : Option ℕ × Option ℕ) × (o ≡ Some (Some ns)) × (sides_in vars ns ≡ sides)
   kept-number None sides e = absurd (cc e)
@@ -336,7 +336,7 @@ module _ (vars : List Var) (row : Line) (hint : Option ℕ) (chains : Chained) (
       )
 
   module _ (now : Entries) (is : entries_of vars row chains ≡ now) (n : ℕ) (row2 : Line) (kept : row2.kept ≡ set row.kept n None) where
-    -- an entry that is put behind the last one before its variable
+    -- an entry linked behind the last one before its variable
     pub placed : n < length now.vars → has now.linked (var_at now.vars n) ≡ false → (place : Option ℕ) → StandsIn row.linked place → (v : Var) → slice_get vars n ≡ Some v
         → IfSome place (λ m. is_before (var_at vars m) v ≡ true) → IfSome (first_of (behind place row.linked)) (λ m. is_before (var_at vars m) v ≡ false)
         → ((front rest : List ℕ) → IsParted row.linked place front rest → row2.linked ≡ front ++ n ∷ rest)
@@ -352,7 +352,7 @@ module _ (vars : List Var) (row : Line) (hint : Option ℕ) (chains : Chained) (
           view-linked vars row hint chains h n fits row2 part.0 part.1 part.2 new kept left right ∙ ap (λ (s : Entries). put s n) is,
         )
 
-    -- an entry that returns between the neighbours that it keeps
+    -- an entry relinked between the neighbours that it keeps
     pub returned : MayReturn now n → ((front rest : List ℕ) → IsGap row n front rest → row2.linked ≡ front ++ n ∷ rest)
         → AreLinks vars row2 hint chains × (entries_of vars row2 chains ≡ put now n)
     returned may goes =
@@ -362,7 +362,7 @@ module _ (vars : List Var) (row : Line) (hint : Option ℕ) (chains : Chained) (
           view-linked vars row hint chains h n gap.4 row2 gap.0 gap.1 gap.2 new kept gap.5 gap.6 ∙ ap (λ (s : Entries). put s n) is,
         )
 
-  -- an entry of a variable more
+  -- one more entry
   module _ (v : Var) (fresh : has vars v ≡ false) where
     same-at : (k : ℕ) → k < length vars → var_at (vars ++ v ∷ []) k ≡ var_at vars k
     same-at k lt = get_or_append_left vars (v ∷ []) no_var k lt
@@ -449,13 +449,13 @@ module _ (vars : List Var) (row : Line) (hint : Option ℕ) (chains : Chained) (
         (map (option_map (sides_in (vars ++ v ∷ []))) (row.kept ++ Some (None, None) ∷ [])) (map (option_map (sides_in vars)) row.kept ++ Some (None, None) ∷ []) same-linked kept
         ∙ sym (ap (λ b. cond b (entries_of vars row chains) fresh-entries) fresh)
 
--- a variable that has an entry is registered as it was
+-- registering a variable again changes nothing
 pub registered-again : (s : Entries) (v : Var) (n : ℕ) → slice_get s.vars n ≡ Some v → s ≡ registered s v
 registered-again s v n h =
     let more : Entries = record s { vars = s.vars ++ v ∷ []; kept = s.kept ++ Some (None, None) ∷ []; chains = s.chains ++ [] ∷ [] } in
     sym (ap (λ b. cond b s more) (contains-has s.vars v (get-contains s.vars n v h)))
 
--- an entry that is put back where it was taken out
+-- an entry relinked where it was unlinked
 
 with-without : (v : Var) (vars : List Var) → is_rising vars ≡ true → has vars v ≡ true → with_var v (without v vars) ≡ vars
 with-without v vars rising h =
@@ -484,7 +484,7 @@ found-linked vars row hint chains h now is None k = tt
 found-linked vars row hint chains h now is (Some n) k =
     sym (linked-number vars row hint chains h now is n (subst (λ (s : Entries). n < length s.vars) is (h.below n k))) ∙ k
 
--- what has no entry isn't linked
+-- a variable without an entry isn't linked
 pub unknown-unlinked : (vars : List Var) (row : Line) (hint : Option ℕ) (chains : Chained) → AreLinks vars row hint chains → (v : Var) → has vars v ≡ false
     → has (map (var_at vars) row.linked) v ≡ false
 unknown-unlinked vars row hint chains h v fresh =
@@ -496,7 +496,7 @@ unknown-unlinked vars row hint chains h v fresh =
       | false ↦ λ e. refl
     ] refl
 
--- an entry that was linked may return where it was taken out
+-- an entry that was just unlinked may return
 pub may-return : (s : Entries) (n : ℕ) → WasLinked s n → MayReturn (taken s n) n
 may-return s n was =
     let v = var_at s.vars n in

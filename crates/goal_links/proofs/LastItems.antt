@@ -1,7 +1,7 @@
 -- Shared: lists by their last items.
 use Rattle.std.proofs.Common.{◌≡◌, ℕ, zero, suc, ◌+◌, ◌<◌, take, drop, List, [], ◌∷◌, ◌++◌, length, Option, Some, None, MatchOption, refl, sym, ap, ◌∙◌, subst, inl, inr, ◌⊎◌, arith}
 
--- a list with one item more, split
+-- a list with one more item, split
 pub snoc-split : {A : Type 0} (xs : List A) (x : A) (front : List A) (l : A) (rest : List A) → xs ++ x ∷ [] ≡ front ++ l ∷ rest
     → ((rest ≡ []) × (front ≡ xs) × (l ≡ x)) ⊎ ((less : List A) × (xs ≡ front ++ l ∷ less))
 snoc-split [] x [] l rest h = inl (cc, refl, cc)
@@ -27,7 +27,7 @@ pub pop-some : {A : Type 0} (xs ys : List A) (o : Option A) → MatchOption o ((
 pop-some xs ys None h some = absurd (some h.0)
 pop-some xs ys (Some x) h some = (x, h)
 
--- one item more of those behind some
+-- one more item of a list's rest
 pub take-next : {A : Type 0} (k : ℕ) (xs : List A) → take (k + 1) xs ≡ take k xs ++ take 1 (drop k xs)
 take-next k xs = let on : k + 1 ≡ suc k = omega arith in ap (λ n. take n xs) on ∙ next k xs
   where

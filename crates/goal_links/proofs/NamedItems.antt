@@ -1,4 +1,4 @@
--- Shared: lists whose items are named by others: what stands beside an item.
+-- Shared: neighbours of items under an injective renaming.
 use Rattle.std.proofs.Common.{◌≡◌, ℕ, zero, suc, length, map, Bool, true, false, cond, ◌||◌, List, [], ◌∷◌, ◌++◌, Option, Some, refl, ap, ◌∙◌, subst, inl, inr, ◌⊎◌}
 use Rattle.std.specs.List.{Contains, list_any, filter, slice_get}
 use Rattle.std.specs.Option.{option_map}
@@ -34,7 +34,7 @@ pub last-mapped : {X Y : Type 0} (f : X → Y) (before : Option X) (xs : List X)
 last-mapped f before [] = refl
 last-mapped f before (x ∷ xs) = last-mapped f (Some x) xs
 
--- two things by their names
+-- two neighbours, renamed
 abbrev pub both : {X Y : Type 0} → (X → Y) → Option X × Option X → Option Y × Option Y
 both f sides = (option_map f sides.0, option_map f sides.1)
 
@@ -69,7 +69,7 @@ get-contains [] k x h = absurd (cc h)
 get-contains (y ∷ xs) zero x h = let e : y ≡ x = cc in subst (λ z. Contains (y ∷ xs) z) e (contains-head y xs)
 get-contains (y ∷ xs) (suc k) x h = contains-tail y xs x (get-contains xs k x h)
 
--- what stands at a place of a list in which one was written
+-- the item at a place after a write
 pub get-set : {X : Type 0} (xs : List X) (i : ℕ) (v : X) (k : ℕ) (x : X) → slice_get (set xs i v) k ≡ Some x → ((k ≡ i) × (v ≡ x)) ⊎ (slice_get xs k ≡ Some x)
 get-set [] i v k x h = absurd (cc h)
 get-set (y ∷ xs) zero v zero x h = inl (refl, cc)

@@ -1,4 +1,4 @@
--- Lists of nodes: what is in them, and what stands beside a node.
+-- Lists of nodes: their members, and the neighbours of a node.
 use Rattle.std.proofs.Common.{◌≡◌, ℕ, ◌<◌, IfSome, eqb, eqb-true, eq-eqb, ne_eqb, true, false, not, cond, ◌||◌, List, [], ◌∷◌, ◌++◌, Option, Some, None, refl, sym, ap, ◌∙◌, subst, inl, inr}
 use Rattle.std.specs.List.{Contains}
 use Rattle.std.proofs.lemmas.Bool.{false≢true, or_right}
@@ -49,7 +49,7 @@ without-parted (w ∷ xs) n ys h k =
     ap (λ b. cond (not b) (w ∷ without_node n (xs ++ n ∷ ys)) (without_node n (xs ++ n ∷ ys))) (head-not w xs n h)
     ∙ ap (λ l. w ∷ l) (without-parted xs n ys (tail-not w xs n h) k)
 
--- another node is there as it was
+-- a different node is a member as before
 pub has-other : (xs : List ℕ) (n : ℕ) (ys : List ℕ) (k : ℕ) → (k ≡ n → ⊥) → has_node (xs ++ n ∷ ys) k ≡ has_node (xs ++ ys) k
 has-other [] n ys k h = ap (λ b. b || has_node ys k) (ne_eqb k n h)
 has-other (w ∷ xs) n ys k h = ap (λ b. eqb k w || b) (has-other xs n ys k h)
@@ -72,7 +72,7 @@ behind-last start x (w ∷ xs) ys h =
     ∙ ap (λ b. cond b (w ∷ xs ++ ys) (behind_first (eqb last.0) (w ∷ xs ++ ys))) other
     ∙ sym (ap (λ p. behind p (w ∷ xs ++ ys)) last.1) ∙ behind-last (Some x) w xs ys h.1
 
--- what is behind the last of a front is the rest
+-- the nodes behind the last one of a prefix are the rest
 pub behind-front : (xs ys : List ℕ) → AreOnce None (xs ++ ys) → behind (last_of xs) (xs ++ ys) ≡ ys
 behind-front [] ys h = refl
 behind-front (x ∷ xs) ys h = behind-last None x xs ys h
@@ -86,7 +86,7 @@ in-back xs n ys k c = contains-right xs (n ∷ ys) k (contains-tail n ys k c)
 pub not-either : (xs : List ℕ) (n : ℕ) (ys : List ℕ) → (Contains xs n → ⊥) → (Contains ys n → ⊥) → Contains (xs ++ ys) n → ⊥
 not-either xs n ys h k c = elim (contains-append xs ys n c) [ inl a ↦ h a | inr b ↦ k b ]
 
--- another node is left
+-- a different node remains
 pub without-other : (ns : List ℕ) (n k : ℕ) → (k ≡ n → ⊥) → has_node (without_node n ns) k ≡ has_node ns k
 without-other [] n k h = refl
 without-other (m ∷ ns) n k h =
@@ -95,7 +95,7 @@ without-other (m ∷ ns) n k h =
       | false ↦ λ e. ap (λ b. eqb k m || b) (without-other ns n k h)
     ] refl
 
--- a place among the nodes that are left is one among all
+-- a place among the remaining nodes is one among all
 pub stands-without : (n : ℕ) (ns : List ℕ) (place : Option ℕ) → StandsIn (without_node n ns) place → StandsIn ns place
 stands-without n ns None h = tt
 stands-without n ns (Some k) h = contains-has ns k (contains-filter (λ m. not (eqb n m)) ns k (has-contains (without_node n ns) k h)).0

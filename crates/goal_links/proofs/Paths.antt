@@ -1,4 +1,4 @@
--- Paths: their parts, that they pass no node twice, and what a node more or less makes of them.
+-- Paths: their parts; they have no node twice; a node linked or unlinked.
 use Rattle.std.proofs.Common.{◌≡◌, ℕ, eqb-true, eq-eqb, append-nil, ◌<◌, ◌≤◌, arith, length, true, false, cond, List, [], ◌∷◌, ◌++◌, Option, Some, None, refl, sym, ap, ◌∙◌, subst, inl, inr, length-append}
 use Rattle.std.specs.List.{Contains}
 use Rattle.common_laws.specs.Lists.{contains-head, contains-tail, contains-none, contains-cases, contains-left, contains-right}
@@ -45,7 +45,7 @@ module _ (next prev : Option ℕ → Option ℕ) (count : ℕ) where
   path-more more start [] end le h = h
   path-more more start (w ∷ xs) end le h = (h.0, h.1, omega (arith, h.2, le), path-more more (Some w) xs end le h.3)
 
-  -- from one place one way leads to the end
+  -- the path from a place to the end is unique
   path-one : (start : Option ℕ) (xs ys : List ℕ) → IsPath next prev count start xs None → IsPath next prev count start ys None → xs ≡ ys
   path-one start [] [] h k = refl
   path-one start [] (y ∷ ys) h k = absurd (cc (sym h.0 ∙ k.0))
@@ -55,7 +55,7 @@ module _ (next prev : Option ℕ → Option ℕ) (count : ℕ) where
       let same : x ≡ y = cc in
       ap (λ z. z ∷ xs) same ∙ ap (λ l. y ∷ l) (path-one (Some y) xs ys (subst (λ z. IsPath next prev count (Some z) xs None) same h.3) k.3)
 
-  -- so it doesn't come back to where it began
+  -- so it doesn't return to its start
   pub path-fresh : (start : Option ℕ) (xs : List ℕ) → IsPath next prev count start xs None → (k : ℕ) → Contains xs k → start ≡ Some k → ⊥
   path-fresh start xs h k c e =
       let p = parted xs k c in
@@ -65,7 +65,7 @@ module _ (next prev : Option ℕ → Option ℕ) (count : ℕ) where
       let shorter : length xs ≡ length p.1 = ap length same in
       omega (arith, len, shorter, length-append p.0 (k ∷ p.1))
 
--- each node of a list isn't among those behind it, nor is what stands before them all
+-- no node of a list is repeated, and the one before the list isn't in it
 abbrev pub AreOnce : Option ℕ → List ℕ → Type 0
 AreOnce start [] = Unit {0}
 AreOnce start (n ∷ ns) = ((k : ℕ) → Contains (n ∷ ns) k → start ≡ Some k → ⊥) × AreOnce (Some n) ns
@@ -88,7 +88,7 @@ module _ (next prev next2 prev2 : Option ℕ → Option ℕ) (count : ℕ) where
         path-stays (Some x) xs end (on x here) (λ k c. on k (contains-tail x xs k c)) (λ k c. back k (contains-tail x xs k c)) last h.3,
       )
 
-  -- a path leads elsewhere once its last node does
+  -- a path has another end where its last node has another next node
   pub path-turned : (start : Option ℕ) (xs : List ℕ) (end to : Option ℕ) → AreOnce start xs
       → next2 (last_from start xs) ≡ to → prev2 to ≡ last_from start xs → ((at : Option ℕ) → (at ≡ last_from start xs → ⊥) → next2 at ≡ next at)
       → ((k : ℕ) → Contains xs k → prev2 (Some k) ≡ prev (Some k))
@@ -123,7 +123,7 @@ put-there p to old at h = ap (λ b. cond b to (old at)) (ap (same_place p) (sym 
 put-elsewhere : (p to : Option ℕ) (old : Option ℕ → Option ℕ) (at : Option ℕ) → (p ≡ at → ⊥) → with_place p to old at ≡ old at
 put-elsewhere p to old at h = ap (λ b. cond b to (old at)) (place-other p at h)
 
--- what is in a list of which each node stands once
+-- members of a list without repeated nodes
 
 pub once-start : (start : Option ℕ) (xs : List ℕ) (k : ℕ) → AreOnce start xs → Contains xs k → start ≡ Some k → ⊥
 once-start start [] k h c e = contains-none k c
@@ -145,7 +145,7 @@ once-apart start (x ∷ xs) ys k h c d =
       | inr r ↦ once-apart (Some x) xs ys k h.1 r d
     ]
 
--- the last of some nodes is one of them, and so is the first
+-- the first and the last node of a list are members
 pub not-last : (xs : List ℕ) (k : ℕ) → (Contains xs k → ⊥) → last_from None xs ≡ Some k → ⊥
 not-last [] k h e = cc e
 not-last (x ∷ xs) k h e =
@@ -159,7 +159,7 @@ not-first [] k h e = cc e
 not-first (y ∷ ys) k h e = let same : y ≡ k = cc in h (subst (λ n. Contains (y ∷ ys) n) same (contains-head y ys))
 
 module _ (next prev next2 prev2 : Option ℕ → Option ℕ) (count : ℕ) where
-  -- a node less: its neighbours are joined
+  -- a node unlinked: its neighbours are joined
   pub path-unlinked : (xs : List ℕ) (x : ℕ) (ys : List ℕ) → IsPath next prev count None (xs ++ x ∷ ys) None
       → ((at : Option ℕ) → next2 at ≡ with_place (prev (Some x)) (next (Some x)) next at)
       → ((at : Option ℕ) → prev2 at ≡ with_place (next (Some x)) (prev (Some x)) prev at) → IsPath next2 prev2 count None (xs ++ ys) None
@@ -190,7 +190,7 @@ module _ (next prev next2 prev2 : Option ℕ → Option ℕ) (count : ℕ) where
             (back None ∙ put-elsewhere (next (Some x)) (prev (Some x)) prev None (λ e. let no : Some y ≡ None = sym rest.0 ∙ e in cc no)) rest.3)
       ] parts.2 once
 
-  -- a node more, between its neighbours
+  -- a node linked between its neighbours
   pub path-linked : (xs : List ℕ) (x : ℕ) (ys : List ℕ) → IsPath next prev count None (xs ++ ys) None → (Contains (xs ++ ys) x → ⊥) → x < count
       → prev (Some x) ≡ last_from None xs → next (Some x) ≡ first_or None ys
       → ((at : Option ℕ) → next2 at ≡ with_place (prev (Some x)) (Some x) next at)

@@ -1,4 +1,4 @@
--- Rings: the nodes of one, and what a node more or less makes of them.
+-- The nodes of a ring, and a node linked or unlinked.
 use Rattle.std.proofs.Common.{◌≡◌, ℕ, zero, suc, ◌<◌, ◌≤◌, arith, length, eqb, eqb-true, true, false, ◌||◌, List, [], ◌∷◌, Option, Some, None, refl, sym, ap, ◌∙◌, subst}
 use Rattle.std.specs.List.{Contains, AllPairs}
 use Rattle.std.proofs.lemmas.Bool.{false≢true}
@@ -41,6 +41,6 @@ module _ (ends : RingNode) (nodes : List RingNode) where
   pub ring-within : (ns : List ℕ) → IsRing ends nodes ns → (k : ℕ) → Contains ns k → k < length nodes
   ring-within ns h = path-within (next_at ends nodes) (prev_at ends nodes) (length nodes) None ns None h
 
-  -- a ring is the one that is found by going round
+  -- a ring has the nodes that a walk from its ends visits
   pub ring-is : (ns : List ℕ) → IsRing ends nodes ns → ring_of ends nodes ≡ ns
   ring-is ns h = walk-is ends nodes (length nodes) None ns h (once-short None ns (length nodes) (ring-once ns h) (ring-within ns h))

@@ -1,4 +1,4 @@
--- Rows: what stands beside a node, and a node that is taken out or put in.
+-- Rows: the neighbours of a node, and a node unlinked or linked.
 use Rattle.std.proofs.Common.{◌≡◌, ℕ, zero, suc, ◌+◌, ◌-◌, ◌<◌, arith, length, eqb, eqb-true, eq-eqb, Bool, true, false, cond, List, [], ◌∷◌, ◌++◌, Option, Some, None, append_assoc, append-nil, refl, sym, ap, ◌∙◌, subst, get_or, take, drop}
 use Rattle.std.specs.List.{Contains, slice_get}
 use Rattle.std.proofs.Math.ListN.{set}
@@ -22,11 +22,11 @@ Sides = Option ℕ × Option ℕ
 abbrev pub line : List ℕ → List (Option Sides) → Line
 line linked kept = record { linked = linked; kept = kept }
 
--- the nodes are those of a row with these linked and these neighbours kept
+-- the nodes are a row with these linked nodes and kept neighbours
 abbrev pub IsRow : RingNode → List RingNode → List ℕ → List (Option Sides) → Type 0
 IsRow ends nodes linked kept = IsRing ends nodes (ring_of ends nodes) × (ring_of ends nodes ≡ linked) × (kept_from (ring_of ends nodes) 0 nodes ≡ kept)
 
--- it is the one that contracts see
+-- that row is the one that contracts see
 pub row-line : (ends : RingNode) (nodes : List RingNode) (linked : List ℕ) (kept : List (Option Sides)) → IsRow ends nodes linked kept
     → line (ring_of ends nodes) (kept_from (ring_of ends nodes) 0 nodes) ≡ line linked kept
 row-line ends nodes linked kept h =
@@ -37,7 +37,7 @@ row-line ends nodes linked kept h =
 pub written : (n : ℕ) (new old : List RingNode) → length new ≡ n → take n (new ++ drop (length new) old) ≡ new
 written n new old e = ap (λ k. take k (new ++ drop (length new) old)) (sym e) ∙ take-append_seam new (drop (length new) old)
 
--- what is kept
+-- kept neighbours
 
 -- the neighbours of a node
 abbrev pub sides_of : RingNode → Option Sides
@@ -73,7 +73,7 @@ same-sides m n h =
     let left : sides_of m ≡ Some (n.prev, m.next) = ap (λ (p : Option ℕ). let s : Option Sides = Some (p, m.next) in s) h.0 in
     left ∙ ap (λ (q : Option ℕ). let s : Option Sides = Some (n.prev, q) in s) h.1
 
--- what is kept changes at one node
+-- the kept neighbours change at one node
 pub kept-changed : (linked linked2 : List ℕ) (nodes nodes2 : List RingNode) (x : ℕ) (v : Option Sides) → length nodes2 ≡ length nodes → x < length nodes
     → ((k : ℕ) → (k ≡ x → ⊥) → has_node linked2 k ≡ has_node linked k)
     → ((k : ℕ) → (k ≡ x → ⊥) → has_node linked k ≡ false → AreSame (get_or nodes2 k no_node) (get_or nodes k no_node))
@@ -104,7 +104,7 @@ kept-changed linked linked2 nodes nodes2 x v len within has same at =
           ∙ sym (kept-at linked nodes k in1) ∙ sym (get_or-set_other old x k v None other)
     ] refl)
 
--- what stands beside a node of a ring
+-- the neighbours of a node of a ring
 
 module _ (ends : RingNode) (nodes : List RingNode) (ns : List ℕ) (h : IsRing ends nodes ns) where
   pub linked-within : (n : ℕ) → has_node ns n ≡ true → n < length nodes
@@ -119,12 +119,12 @@ module _ (ends : RingNode) (nodes : List RingNode) (ns : List ℕ) (h : IsRing e
       path-first (next_at ends nodes) (prev_at ends nodes) (length nodes) (Some n) p.1 None parts.2
       ∙ sym (ap (λ l. first_of (behind_first (eqb n) l)) p.2 ∙ ap first_of (behind-parted p.0 n p.1 (apart-front p.0 n p.1 once)))
 
--- nodes that aren't the one at a place
+-- nodes other than the one at a place
 pub same-elsewhere : (p : Option ℕ) (to : Option ℕ) (old : Option ℕ → Option ℕ) (k : ℕ) → (p ≡ Some k → ⊥) → with_place p to old (Some k) ≡ old (Some k)
 same-elsewhere p to old k h = ap (λ b. cond b to (old (Some k))) (place-other p (Some k) h)
 
 module _ (ends ends2 : RingNode) (nodes nodes2 : List RingNode) (len : length nodes2 ≡ length nodes) (n : ℕ) where
-  -- the ring, its nodes and what is kept, once a node was taken out
+  -- the ring, its nodes and kept neighbours after a node is unlinked
   pub row-unlinked : IsRing ends nodes (ring_of ends nodes) → has_node (ring_of ends nodes) n ≡ true
       → ((at : Option ℕ) → next_at ends2 nodes2 at ≡ with_place (prev_at ends nodes (Some n)) (next_at ends nodes (Some n)) (next_at ends nodes) at)
       → ((at : Option ℕ) → prev_at ends2 nodes2 at ≡ with_place (next_at ends nodes (Some n)) (prev_at ends nodes (Some n)) (prev_at ends nodes) at)
@@ -167,7 +167,7 @@ module _ (ends ends2 : RingNode) (nodes nodes2 : List RingNode) (len : length no
             ∙ ap (λ s. set (kept_from ns 0 nodes) n (Some s)) (sym (ap (beside (eqb n)) part.2 ∙ beside-parted None xs n ys front)),
       )
 
--- the ring, its nodes and what is kept, with one node more outside
+-- the ring, its nodes and kept neighbours with one more unlinked node
 kept-push : (linked : List ℕ) (n : ℕ) (nodes : List RingNode) (m : RingNode)
     → kept_from linked n (nodes ++ m ∷ []) ≡ kept_from linked n nodes ++ cond (has_node linked (n + length nodes)) None (sides_of m) ∷ []
 kept-push linked n [] m = ap (λ k. cond (has_node linked k) None (sides_of m) ∷ []) (omega arith)
@@ -202,7 +202,7 @@ pub stands : (place : Option ℕ) (n : ℕ) (ns now : List ℕ) → ns ≡ now �
 stands place n ns now e h is = ap (λ (l : List ℕ). has_node l n) e ∙ subst (λ (p : Option ℕ). StandsIn now p) is h
 
 module _ (ends ends2 : RingNode) (nodes nodes1 nodes2 : List RingNode) (n : ℕ) where
-  -- the ring, its nodes and what is kept, once a node was put between the neighbours that it has
+  -- the ring, its nodes and kept neighbours after a node is linked between its neighbours
   pub row-linked : (xs ys : List ℕ) → length nodes1 ≡ length nodes → length nodes2 ≡ length nodes → ((k : ℕ) → (k ≡ n → ⊥) → get_or nodes1 k no_node ≡ get_or nodes k no_node)
       → IsRing ends nodes (ring_of ends nodes) → ring_of ends nodes ≡ xs ++ ys → has_node (ring_of ends nodes) n ≡ false → n < length nodes
       → prev_at ends nodes1 (Some n) ≡ last_of xs → next_at ends nodes1 (Some n) ≡ first_of ys
@@ -271,7 +271,7 @@ module _ (ends : RingNode) (nodes : List RingNode) (h : IsRing ends nodes (ring_
       let back = gap-within (part.0 ++ n ∷ []) part.1 whole in
       (subst (IsWithin (length nodes)) (sym part.3) front.0, subst (IsWithin (length nodes)) (sym part.4) back.1)
 
-  -- what stands before a node stands there without it too
+  -- the nodes before a node are the same without it
   pub prev-stands : (n : ℕ) → has_node (ring_of ends nodes) n ≡ true → StandsIn (without_node n (ring_of ends nodes)) (prev_at ends nodes (Some n))
   prev-stands n in' =
       let part = node-parted n in' in
@@ -286,7 +286,7 @@ module _ (ends : RingNode) (nodes : List RingNode) (h : IsRing ends nodes (ring_
           let last = last-contains x xs in
           subst (StandsIn ((x ∷ xs) ++ ys)) (sym last.1) (contains-has ((x ∷ xs) ++ ys) last.0 (contains-left (x ∷ xs) ys last.0 last.2))
 
--- a row parted at a place
+-- a row split at a place
 pub place-parted : (ns : List ℕ) (place : Option ℕ) → StandsIn ns place → (xs : List ℕ) × (ys : List ℕ) × (ns ≡ xs ++ ys) × (last_of xs ≡ place)
 place-parted ns None h = ([], ns, refl, refl)
 place-parted ns (Some n) h =
@@ -302,7 +302,7 @@ kept-none ends nodes h n in' =
     slice_get-get_or (kept_from ns 0 nodes) n None (omega (arith, within, kept-length ns 0 nodes))
     ∙ ap Some (kept-at ns nodes n within ∙ ap (λ b. cond b None (neighbours nodes n)) in')
 
--- what keeps neighbours stands outside, and they are its neighbours
+-- a node that keeps neighbours is unlinked, and its fields have them
 pub kept-is : (linked : List ℕ) (nodes : List RingNode) (n : ℕ) (sides : Sides) → slice_get (kept_from linked 0 nodes) n ≡ Some (Some sides)
     → (n < length nodes) × (has_node linked n ≡ false) × ((get_or nodes n no_node).prev ≡ sides.0) × ((get_or nodes n no_node).next ≡ sides.1)
 kept-is linked nodes n sides h =
@@ -350,14 +350,14 @@ linked-row ends ends2 nodes nodes1 mid new old len n xs ys e len1 others h parts
     (row-linked ends ends2 nodes mid new n xs ys len-mid (same ∙ len-mid) (λ k other. ap (λ (l : List RingNode). get_or l k no_node) e ∙ others k other) h parts out within
     (ap (λ (l : List RingNode). prev_at ends l (Some n)) e ∙ p) (ap (λ (l : List RingNode). next_at ends l (Some n)) e ∙ q) on back)
 
--- a place at which what stands behind it is known
+-- a place with its known next node
 pub gap-behind : (ends : RingNode) (nodes : List RingNode) → IsRing ends nodes (ring_of ends nodes) → (place next : Option ℕ) (xs ys : List ℕ)
     → ring_of ends nodes ≡ xs ++ ys → last_of xs ≡ place → next ≡ first_of (behind place (ring_of ends nodes)) → next ≡ first_of ys
 gap-behind ends nodes h place next xs ys e last is =
     is ∙ ap (λ (l : List ℕ). first_of (behind place l)) e ∙ ap (λ p. first_of (behind p (xs ++ ys))) (sym last)
     ∙ ap first_of (behind-front xs ys (ring-once ends nodes (xs ++ ys) (subst (λ l. IsRing ends nodes l) e h)))
 
--- a node that is put behind a place, with its neighbours written
+-- a node linked behind a place, with its neighbours written
 module _ (ends : RingNode) (nodes : List RingNode) (h : IsRing ends nodes (ring_of ends nodes)) (place next : Option ℕ) (n : ℕ) (within : n < length nodes)
     (stands-in : StandsIn (ring_of ends nodes) place) (is : next ≡ first_of (behind place (ring_of ends nodes))) (mid : List RingNode) (e : mid ≡ set nodes n (record { prev = place; next = next })) where
   placed-at : get_or mid n no_node ≡ record { prev = place; next = next }
@@ -398,7 +398,7 @@ module _ (ends : RingNode) (nodes : List RingNode) (h : IsRing ends nodes (ring_
     pub placed-somewhere : (xs : List ℕ) × (ys : List ℕ) × IsRow ends2 (take len (new ++ drop (length new) old)) (xs ++ n ∷ ys) (set (kept_from (ring_of ends nodes) 0 nodes) n None)
     placed-somewhere = let part = place-parted (ring_of ends nodes) place stands-in in (part.0, part.1, placed-row part.0 part.1 part.2 part.3)
 
--- a node that is put back between the neighbours that it keeps
+-- a node relinked between the neighbours that it keeps
 module _ (ends : RingNode) (nodes : List RingNode) (h : IsRing ends nodes (ring_of ends nodes)) (n : ℕ) (xs ys : List ℕ) (parts : ring_of ends nodes ≡ xs ++ ys)
     (kept : slice_get (kept_from (ring_of ends nodes) 0 nodes) n ≡ Some (Some (last_of xs, first_of ys))) (mid : List RingNode) (e : mid ≡ nodes) where
   pub returned-node : n < length mid
@@ -423,7 +423,7 @@ module _ (ends : RingNode) (nodes : List RingNode) (h : IsRing ends nodes (ring_
       let k = kept-is (ring_of ends nodes) nodes n (last_of xs, first_of ys) kept in
       linked-row ends ends2 nodes nodes mid new old len n xs ys e refl (λ k other. refl) h parts k.1 k.0 k.2 k.3 on back same all
 
--- the next node, and what follows it
+-- the next node, and the nodes behind it
 pub behind-step : (ends : RingNode) (nodes : List RingNode) → IsRing ends nodes (ring_of ends nodes) → (place : Option ℕ) (n : ℕ) → StandsIn (ring_of ends nodes) place
     → Some n ≡ first_of (behind place (ring_of ends nodes)) → (behind place (ring_of ends nodes) ≡ n ∷ behind (Some n) (ring_of ends nodes)) × (has_node (ring_of ends nodes) n ≡ true)
 behind-step ends nodes h place n stands-in e =
@@ -444,7 +444,7 @@ behind-step ends nodes h place n stands-in e =
     let found = go part.1 (e ∙ ap first_of rest) part.2 once in
     (rest ∙ found.0, found.1)
 
--- the last node goes
+-- the last node is removed
 path-less : (next prev : Option ℕ → Option ℕ) (count less : ℕ) (start : Option ℕ) (xs : List ℕ) (end : Option ℕ) → ((k : ℕ) → Contains xs k → k < less)
     → IsPath next prev count start xs end → IsPath next prev less start xs end
 path-less next prev count less start [] end le h = h
@@ -500,7 +500,7 @@ module _ (ends : RingNode) (nodes less : List RingNode) (m : RingNode) (e : node
           no-back (w ∷ ys) y h = cc h
       front-same (z ∷ xs) (w ∷ ys) x y h = let i : z ≡ w = cc in ap (λ a. a ∷ xs) i ∙ ap (λ l. w ∷ l) (front-same xs ys x y cc)
 
--- where no node is taken there is none
+-- where no node is removed, there is none
 pub none-popped : (ends : RingNode) (nodes less : List RingNode) → nodes ≡ less ++ [] → length nodes ≡ 0 → IsRing ends nodes (ring_of ends nodes)
     → IsRing ends less (ring_of ends less) × ((now : Line) → line (ring_of ends nodes) (kept_from (ring_of ends nodes) 0 nodes) ≡ with_node now
     → line (ring_of ends less) (kept_from (ring_of ends less) 0 less) ≡ now)
@@ -513,14 +513,14 @@ none-popped ends nodes less e zero-long h =
     too-long : (now : Line) → length (kept_from (ring_of ends nodes) 0 nodes) ≡ length (now.kept ++ sides_of no_node ∷ []) → ⊥
     too-long now i = omega (arith, i, zero-long, kept-length (ring_of ends nodes) 0 nodes, length-append now.kept (sides_of no_node ∷ []))
 
--- the gap between the neighbours that a node keeps, as what contracts see says it
+-- the gap between the neighbours that a node keeps, as contracts see it
 pub gap-kept : (view now : Line) → view ≡ now → (n : ℕ) → (may : MayReturn now n) → IsGap view n may.2.0 may.2.1
 gap-kept view now is n may =
     let left : may.0 ≡ (last_of may.2.0, may.0.1) = ap (λ (l : Option ℕ). let s : Sides = (l, may.0.1) in s) (sym may.2.3) in
     let right : (last_of may.2.0, may.0.1) ≡ (last_of may.2.0, first_of may.2.1) = ap (λ (r : Option ℕ). let s : Sides = (last_of may.2.0, r) in s) (sym may.2.4) in
     (ap (λ (v : Line). v.linked) is ∙ may.2.2, ap (λ (v : Line). slice_get v.kept n) is ∙ may.1 ∙ ap (λ (s : Sides). Some (Some s)) (left ∙ right))
 
--- a place and what follows it, as what contracts see says it
+-- a place and its next node, as contracts see them
 pub place-seen : (view now : Line) → view ≡ now → (place next : Option ℕ) → StandsIn now.linked place → next ≡ first_of (behind place now.linked)
     → StandsIn view.linked place × (next ≡ first_of (behind place view.linked))
 place-seen view now is place next stands e = (

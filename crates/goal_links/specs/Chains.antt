@@ -1,17 +1,17 @@
--- Chains of cells, one for each entry.
+-- Chains of cells, one chain for each entry.
 use Rattle.std.specs.Prelude.{◌≡◌, ℕ, ◌<◌, List, [], ◌∷◌, ◌++◌, length, map, slice_index_or, slice_set}
 use Rattle.std.specs.List.{Contains}
 use Rattle.goal_links.specs.declared.ring.RingNode.{RingNode}
 use Rattle.goal_links.specs.declared.chains.Cell.{Cell}
 use Rattle.goal_links.specs.Ring.{IsRing, ring_of, no_node}
 
--- what contracts see of chains
+-- chains as contracts see them
 pub record Chained : Type 0 where
   pub cells : List Cell
   -- for each entry the cells of its chain, in order
   pub chains : List (List ℕ)
 
--- what stands behind the last cell
+-- the cell for a number that no cell has
 abbrev pub no_cell : Cell
 no_cell = record { entry = 0; demand = 0 }
 
@@ -27,29 +27,29 @@ chain_at chains entry = slice_index_or chains entry []
 abbrev pub chain_with : Chained → ℕ → List ℕ
 chain_with all cell = chain_at all.chains (cell_at all.cells cell).entry
 
--- all but the last
+-- a list without its last item
 abbrev pub without_last : {X : Type 0} → List X → List X
 without_last [] = []
 without_last (x ∷ []) = []
 without_last (x ∷ y ∷ xs) = x ∷ without_last (y ∷ xs)
 
--- one entry more, with an empty chain
+-- one more entry, with an empty chain
 abbrev pub with_chain : Chained → Chained
 with_chain all = record all { chains = all.chains ++ [] ∷ [] }
 
--- one cell more
+-- one more cell
 abbrev pub with_cell : Chained → Cell → Chained
 with_cell all cell = record all { cells = all.cells ++ cell ∷ [] }
 
--- another cell in the place of one
+-- a cell replaced by another one
 abbrev pub with_cell_at : Chained → ℕ → Cell → Chained
 with_cell_at all n cell = record all { cells = slice_set all.cells n cell }
 
--- a cell put behind the last one of its chain
+-- a cell appended to its chain
 abbrev pub appended : Chained → ℕ → Chained
 appended all cell = record all { chains = slice_set all.chains (cell_at all.cells cell).entry (chain_with all cell ++ cell ∷ []) }
 
--- the last cell of a chain taken off
+-- the last cell of a chain removed
 abbrev pub shortened : Chained → ℕ → Chained
 shortened all cell = record all { chains = slice_set all.chains (cell_at all.cells cell).entry (without_last (chain_with all cell)) }
 
@@ -57,15 +57,15 @@ shortened all cell = record all { chains = slice_set all.chains (cell_at all.cel
 abbrev pub ends_at : List RingNode → ℕ → RingNode
 ends_at ends entry = slice_index_or ends entry no_node
 
--- the chains that lead from some ends over nodes
+-- the chains with these ends and nodes
 abbrev pub chains_of : List RingNode → List RingNode → List (List ℕ)
 chains_of ends nodes = map (λ e. ring_of e nodes) ends
 
--- what ends, nodes and cells have to do with each other
+-- the invariant of ends, nodes and cells
 pub record AreChains (ends nodes : List RingNode) (cells : List Cell) : Type 0 where
   pub paired : length cells ≡ length nodes
   pub rings : (entry : ℕ) → entry < length ends → IsRing (ends_at ends entry) nodes (ring_of (ends_at ends entry) nodes)
-  -- the cells of a chain are of its entry
+  -- each cell of a chain belongs to the chain's entry
   pub owned : (entry cell : ℕ) → entry < length ends → Contains (ring_of (ends_at ends entry) nodes) cell
       → (cell_at cells cell).entry ≡ entry
   pub entries : (cell : ℕ) → cell < length cells → (cell_at cells cell).entry < length ends

@@ -1,4 +1,4 @@
--- Entries of variables that are linked in goal order, each with a chain of cells.
+-- Entries of variables, each with a chain of cells. Some entries are linked in goal order.
 use Rattle.std.specs.Prelude.{◌≡◌, ℕ, ◌<◌, Bool, true, false, cond, IsTrue, List, [], ◌∷◌, ◌++◌, length, map, Option, Some, None, IfSome, slice_get, slice_index_or, slice_set}
 use Rattle.std.specs.Option.{option_map}
 use Rattle.qualified_goals.specs.declared.variable.Var.{Var}
@@ -11,7 +11,7 @@ use Rattle.goal_links.specs.Beside.{beside, behind_first, AreBeside}
 use Rattle.goal_links.specs.Row.{Line, AreBelow, StandsIn}
 use Rattle.goal_links.specs.Chains.{Chained, cell_at, chain_at, without_last}
 
--- what contracts see of links
+-- links as contracts see them
 pub record Entries : Type 0 where
   -- the variable of each entry
   pub vars : List Var
@@ -23,7 +23,7 @@ pub record Entries : Type 0 where
   -- for each entry the cells of its chain, in order
   pub chains : List (List ℕ)
 
--- what stands behind the last variable
+-- the variable for a number that no entry has
 abbrev pub no_var : Var
 no_var = record { qual = Top; «package» = 0; part = Package }
 
@@ -31,7 +31,7 @@ no_var = record { qual = Top; «package» = 0; part = Package }
 abbrev pub var_at : List Var → ℕ → Var
 var_at vars entry = slice_index_or vars entry no_var
 
--- whether a place is an entry whose variable stands before another one
+-- whether the place is an entry whose variable is before v
 abbrev pub is_entry_before : List Var → Var → Option ℕ → Bool
 is_entry_before vars v None = false
 is_entry_before vars v (Some n) = is_before (var_at vars n) v
@@ -44,11 +44,11 @@ HaveOneEntry vars = (m n : ℕ) → m < length vars → n < length vars → var_
 abbrev pub chain_with : Entries → ℕ → List ℕ
 chain_with s cell = chain_at s.chains (cell_at s.cells cell).entry
 
--- an entry isn't linked, and the neighbours that it keeps stand side by side
+-- an entry isn't linked, and the neighbours that it keeps are adjacent
 abbrev pub MayReturn : Entries → ℕ → Type 0
 MayReturn s entry = (sides : Option Var × Option Var) × (slice_get s.kept entry ≡ Some (Some sides)) × AreBeside sides s.linked
 
--- an entry of a variable more, where it has none
+-- one more entry for the variable, unless it has one
 abbrev pub registered : Entries → Var → Entries
 registered s v = cond (has s.vars v) s (record s {
   vars = s.vars ++ v ∷ [];
@@ -56,11 +56,11 @@ registered s v = cond (has s.vars v) s (record s {
   chains = s.chains ++ [] ∷ [];
 })
 
--- one cell more
+-- one more cell
 abbrev pub with_cell : Entries → Cell → Entries
 with_cell s cell = record s { cells = s.cells ++ cell ∷ [] }
 
--- another cell in the place of one
+-- a cell replaced by another one
 abbrev pub with_cell_at : Entries → ℕ → Cell → Entries
 with_cell_at s n cell = record s { cells = slice_set s.cells n cell }
 
@@ -68,7 +68,7 @@ with_cell_at s n cell = record s { cells = slice_set s.cells n cell }
 abbrev pub vars_behind : Entries → ℕ → List Var
 vars_behind s entry = behind_first (same_var (var_at s.vars entry)) s.linked
 
--- an entry is linked, and those that are linked stand in goal order
+-- an entry is linked, and the linked variables are in goal order
 pub record WasLinked (s : Entries) (entry : ℕ) : Type 0 where
   pub linked : IsTrue (has s.linked (var_at s.vars entry))
   pub kept : slice_get s.kept entry ≡ Some None
@@ -81,18 +81,18 @@ linked s entry = record s {
   kept = slice_set s.kept entry None;
 }
 
--- an entry taken out, with its neighbours kept
+-- an entry unlinked, with its neighbours kept
 abbrev pub unlinked : Entries → ℕ → Entries
 unlinked s entry = record s {
   linked = without (var_at s.vars entry) s.linked;
   kept = slice_set s.kept entry (Some (beside (same_var (var_at s.vars entry)) s.linked));
 }
 
--- a cell put behind the last one of its chain
+-- a cell appended to its chain
 abbrev pub lengthened : Entries → ℕ → Entries
 lengthened s cell = record s { chains = slice_set s.chains (cell_at s.cells cell).entry (chain_with s cell ++ cell ∷ []) }
 
--- the last cell of a chain taken off
+-- the last cell of a chain removed
 abbrev pub shortened : Entries → ℕ → Entries
 shortened s cell = record s { chains = slice_set s.chains (cell_at s.cells cell).entry (without_last (chain_with s cell)) }
 
@@ -100,7 +100,7 @@ shortened s cell = record s { chains = slice_set s.chains (cell_at s.cells cell)
 abbrev pub sides_in : List Var → Option ℕ × Option ℕ → Option Var × Option Var
 sides_in vars sides = (option_map (var_at vars) sides.0, option_map (var_at vars) sides.1)
 
--- variables, a row of their numbers and chains, as one
+-- variables, a row of their numbers and chains as entries
 abbrev pub entries_of : List Var → Line → Chained → Entries
 entries_of vars row chains = record {
   vars = vars;
@@ -110,12 +110,12 @@ entries_of vars row chains = record {
   chains = chains.chains;
 }
 
--- neighbours stand on both sides of a variable
+-- the left neighbour is before the variable, the right one behind it
 pub record AreAround (vars : List Var) (v : Var) (sides : Option ℕ × Option ℕ) : Type 0 where
   pub left : IfSome sides.0 (λ n. (n < length vars) × (is_before (var_at vars n) v ≡ true))
   pub right : IfSome sides.1 (λ n. (n < length vars) × (is_before v (var_at vars n) ≡ true))
 
--- what variables, a row and chains have to do with each other
+-- the invariant of variables, a row and chains
 pub record AreLinks (vars : List Var) (row : Line) (hint : Option ℕ) (chains : Chained) : Type 0 where
   pub counted : length row.kept ≡ length vars
   pub chained : length chains.chains ≡ length vars

@@ -1,4 +1,4 @@
--- Mentions of variables: each is a cell of its variable's entry, and the chain of an entry has the cells of those that are said, in order.
+-- Mentions as cells of their variables' entries. An entry's chain has the cells of its mentions in use, in order.
 use Rattle.std.specs.Prelude.{◌≡◌, ℕ, suc, ◌<◌, ◌≤◌, true, eqb, cond, List, [], ◌∷◌, length, map, filter, take, drop, Option, Some, slice_get}
 use Rattle.qualified_goals.specs.declared.variable.Var.{Var}
 use Rattle.qualified_goals.specs.Variable.{same_var}
@@ -8,19 +8,19 @@ use Rattle.goal_links.specs.Chains.{cell_at, chain_at}
 use Rattle.goal_links.specs.Links.{Entries, var_at}
 use Rattle.goal_links.specs.declared.mentions.Mention.{Mention}
 
--- what contracts see of mentions
+-- mentions as contracts see them
 pub record Mentioned : Type 0 where
   pub said : List Mention
-  -- those that may be said next, which have their cells
+  -- the ready mentions, which have cells already
   pub spare : List Mention
   -- the entries of their variables
   pub row : Entries
 
--- what a cell mentions
+-- the mention of a cell
 abbrev pub mention_in : List Var → Cell → Mention
 mention_in vars cell = record { var = var_at vars cell.entry; place = cell.demand }
 
--- what cells mention, in the order of their numbers
+-- the mentions of all cells, in the order of their numbers
 abbrev pub mentions : Entries → List Mention
 mentions s = map (mention_in s.vars) s.cells
 
@@ -28,7 +28,7 @@ mentions s = map (mention_in s.vars) s.cells
 abbrev pub used : ℕ → Entries → Entries
 used n s = record s { cells = take n s.cells }
 
--- what the first cells mention is said, and what the others do may be said next
+-- the mentions of the first n cells, which are in use, and those of the others, which are ready
 abbrev pub mentioned : Entries → ℕ → Mentioned
 mentioned s n = record {
   said = mentions (used n s);
@@ -36,12 +36,12 @@ mentioned s n = record {
   row = s;
 }
 
--- the numbers of the cells of an entry, among cells that come after n others
+-- the numbers of an entry's cells, where the cells are numbered from n
 abbrev pub numbers_from : ℕ → ℕ → List Cell → List ℕ
 numbers_from n entry [] = []
 numbers_from n entry (cell ∷ cells) = cond (eqb entry cell.entry) (n ∷ numbers_from (suc n) entry cells) (numbers_from (suc n) entry cells)
 
--- the place that the cell with a number has
+-- the place of the cell with a number
 abbrev pub place_at : List Cell → ℕ → ℕ
 place_at cells k = (cell_at cells k).demand
 
@@ -49,7 +49,7 @@ place_at cells k = (cell_at cells k).demand
 abbrev pub places_on : Var → List Mention → List ℕ
 places_on v ms = map (λ m. m.place) (filter (λ m. same_var m.var v) ms)
 
--- the indices of the mentions of a variable, among mentions that come after n others
+-- the indices of the mentions of a variable, where mentions are numbered from n
 abbrev pub indices_from : ℕ → Var → List Mention → List ℕ
 indices_from n v [] = []
 indices_from n v (m ∷ ms) = cond (same_var m.var v) (n ∷ indices_from (suc n) v ms) (indices_from (suc n) v ms)
@@ -64,13 +64,13 @@ pub record AreMentions (s : Entries) : Type 0 where
   pub within : (k : ℕ) → k < length s.cells → (cell_at s.cells k).entry < length s.vars
   pub chains : (entry : ℕ) → entry < length s.vars → chain_at s.chains entry ≡ numbers_from 0 entry s.cells
 
--- the first cells are in chains, and the others in none
+-- the first n cells are in chains, and the others in none
 pub record AreSaid (s : Entries) (n : ℕ) : Type 0 where
   pub said : AreMentions (used n s)
   pub within : (k : ℕ) → k < length s.cells → (cell_at s.cells k).entry < length s.vars
   pub count : n ≤ length s.cells
 
--- entries stay with what they keep, and what is linked stays so
+-- entries, their kept neighbours and the linked variables are unchanged; there may be more entries
 pub record KeepRow (old new : Entries) : Type 0 where
   pub linked : new.linked ≡ old.linked
   pub vars : (n : ℕ) (v : Var) → slice_get old.vars n ≡ Some v → slice_get new.vars n ≡ Some v

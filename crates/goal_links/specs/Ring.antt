@@ -2,7 +2,7 @@
 use Rattle.std.specs.Prelude.{◌≡◌, ℕ, zero, suc, ◌<◌, Bool, true, false, eqb, cond, List, [], ◌∷◌, length, Option, Some, None, slice_index_or}
 use Rattle.goal_links.specs.declared.ring.RingNode.{RingNode}
 
--- what stands behind the last node
+-- the node for a number that no node has
 abbrev pub no_node : RingNode
 no_node = record { prev = None; next = None }
 
@@ -11,57 +11,57 @@ abbrev pub node_at : RingNode → List RingNode → Option ℕ → RingNode
 node_at ends nodes None = ends
 node_at ends nodes (Some n) = slice_index_or nodes n no_node
 
--- what follows a place
+-- the next node of a place
 abbrev pub next_at : RingNode → List RingNode → Option ℕ → Option ℕ
 next_at ends nodes place = (node_at ends nodes place).next
 
--- what stands before a place
+-- the previous node of a place
 abbrev pub prev_at : RingNode → List RingNode → Option ℕ → Option ℕ
 prev_at ends nodes place = (node_at ends nodes place).prev
 
--- whether two places are one
+-- whether two places are the same
 abbrev pub same_place : Option ℕ → Option ℕ → Bool
 same_place None None = true
 same_place None (Some n) = false
 same_place (Some m) None = false
 same_place (Some m) (Some n) = eqb m n
 
--- what stands at each place, once another one was put at one of them
+-- the map with this value at one place
 abbrev pub with_place : Option ℕ → Option ℕ → (Option ℕ → Option ℕ) → Option ℕ → Option ℕ
 with_place place to old at = cond (same_place place at) to (old at)
 
--- what follows each place once the neighbours of a node were joined
+-- the next node of each place after a node is unlinked
 abbrev pub next_without : RingNode → List RingNode → ℕ → Option ℕ → Option ℕ
 next_without ends nodes n = with_place (prev_at ends nodes (Some n)) (next_at ends nodes (Some n)) (next_at ends nodes)
 
--- what stands before each
+-- the previous node of each place likewise
 abbrev pub prev_without : RingNode → List RingNode → ℕ → Option ℕ → Option ℕ
 prev_without ends nodes n = with_place (next_at ends nodes (Some n)) (prev_at ends nodes (Some n)) (prev_at ends nodes)
 
--- what follows each place once a node was put between its neighbours
+-- the next node of each place after a node is linked between its neighbours
 abbrev pub next_with : RingNode → List RingNode → ℕ → Option ℕ → Option ℕ
 next_with ends nodes n = with_place (prev_at ends nodes (Some n)) (Some n) (next_at ends nodes)
 
--- what stands before each
+-- the previous node of each place likewise
 abbrev pub prev_with : RingNode → List RingNode → ℕ → Option ℕ → Option ℕ
 prev_with ends nodes n = with_place (next_at ends nodes (Some n)) (Some n) (prev_at ends nodes)
 
--- the ends, or one of so many nodes
+-- the place is the ends, or a node below count
 abbrev pub IsWithin : ℕ → Option ℕ → Type 0
 IsWithin count None = Unit {0}
 IsWithin count (Some n) = n < count
 
--- the way from one place to another leads over these nodes, forth and back
+-- the path from one place to another has these nodes, both forwards and backwards
 abbrev pub IsPath : (next prev : Option ℕ → Option ℕ) (count : ℕ) («from» : Option ℕ) (ns : List ℕ) (to : Option ℕ) → Type 0
 IsPath next prev count «from» [] to = (next «from» ≡ to) × (prev to ≡ «from»)
 IsPath next prev count «from» (n ∷ ns) to =
     (next «from» ≡ Some n) × (prev (Some n) ≡ «from») × (n < count) × IsPath next prev count (Some n) ns to
 
--- the ring leads over these nodes
+-- the ring has these nodes, in order
 abbrev pub IsRing : RingNode → List RingNode → List ℕ → Type 0
 IsRing ends nodes ns = IsPath (next_at ends nodes) (prev_at ends nodes) (length nodes) None ns None
 
--- the nodes from a place on, at most so many
+-- the nodes from a place on, at most count
 abbrev pub nodes_from : List RingNode → ℕ → Option ℕ → List ℕ
 nodes_from nodes zero place = []
 nodes_from nodes (suc count) None = []

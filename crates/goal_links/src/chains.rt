@@ -1,4 +1,4 @@
-// Chains of cells, one for each entry.
+// Chains of cells, one chain for each entry.
 ghost use Rattle.std.specs.Prelude.{◌≡◌, ◌<◌, [], Some, OnOk, OnErr, IsTrue, IfOk, IfSome, false, length};
 ghost use Rattle.goal_links.specs.declared.chains.Cell.{Cell};
 ghost use Rattle.goal_links.specs.Beside.{first_of, last_of};
@@ -11,17 +11,17 @@ use plan_types::NoMemory;
 use std::alloc::Global;
 use std::marker::Model;
 
-/// A demand that an entry may have in its chain.
+/// A demand, as an item of its entry's chain.
 #[derive(Clone, Copy, Debug, Drop)]
 pub(crate) struct Cell {
     pub(crate) entry: usize,
     pub(crate) demand: u64,
 }
 
-/// Cells by number, of which those of each entry may be linked.
+/// Cells by number. Some cells of an entry are linked in its chain.
 #[derive(Drop)]
 pub(crate) struct Chains {
-    // Of each entry the ends of its chain.
+    // The ends of each entry's chain.
     ends: Vec<RingNode>,
     nodes: Vec<RingNode>,
     cells: Vec<Cell>,
@@ -48,7 +48,7 @@ impl Chains {
         }
     }
 
-    /// One entry more, with an empty chain.
+    /// Adds an entry with an empty chain.
     pub(crate) fn add_entry(&mut self) -> Result<(), NoMemory>
         ensures ok { OnOk result (self.new ≡ with_chain self.old) }
         ensures err { OnErr result (self.new ≡ self.old) }
@@ -57,7 +57,7 @@ impl Chains {
         Ok(())
     }
 
-    /// One cell more, outside its chain.
+    /// Adds a cell outside its chain.
     pub(crate) fn add_cell(&mut self, cell: Cell) -> Result<usize, NoMemory>
         requires { cell.entry < length self.old.chains }
         ensures ok { OnOk result (self.new ≡ with_cell self.old cell) }
@@ -78,7 +78,7 @@ impl Chains {
         self.cells.len()
     }
 
-    /// Makes another cell of one that stands outside its chain.
+    /// Replaces a cell outside its chain.
     pub(crate) fn set_cell(&mut self, place: usize, cell: Cell)
         requires place { place < length self.old.cells }
         requires entry { cell.entry < length self.old.chains }
@@ -126,7 +126,7 @@ impl Chains {
 }
 
 impl Chains {
-    /// Puts a cell behind the last one of its chain.
+    /// Appends a cell to its chain.
     pub(crate) fn append(&mut self, cell: usize)
         requires cell { cell < length self.old.cells }
         requires new { has_node (chain_with self.old cell) cell ≡ false }
@@ -138,7 +138,7 @@ impl Chains {
         relink(&mut self.ends[entry], &mut self.nodes, cell);
     }
 
-    /// Takes the last cell off its chain.
+    /// Removes the last cell of a chain.
     pub(crate) fn shorten(&mut self, cell: usize)
         requires cell { cell < length self.old.cells }
         requires last { last_of (chain_with self.old cell) ≡ Some cell }

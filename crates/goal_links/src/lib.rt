@@ -1,6 +1,6 @@
-//! Open variables as a list that is linked in goal order, and chains of demands. An entry that was unlinked keeps its
-//! neighbours, so that it is put back in constant time where they stand side by side. Mentions of variables are such
-//! chains.
+//! A linked list of variables in goal order, and a chain of cells for each variable. An unlinked entry keeps its
+//! neighbours, so that it is relinked in constant time where they are adjacent. Mentions record which demands name a
+//! variable, as a chain of that variable.
 #![tactic(auto)]
 
 mod chains;

@@ -1,4 +1,4 @@
-// Entries of variables that are linked in goal order, each with a chain of cells.
+// Entries of variables, each with a chain of cells. Some entries are linked in goal order.
 ghost use Rattle.std.specs.Prelude.{◌≡◌, ◌<◌, List, [], Some, None, Option, IfSome, MatchOption, true, false, IsTrue};
 ghost use Rattle.std.specs.Prelude.{IfOk, OnOk, OnErr, length, slice_get, slice_index_or};
 ghost use Rattle.std.specs.Option.{option_map};
@@ -20,11 +20,11 @@ use plan_types::NoMemory;
 use std::alloc::Global;
 use std::marker::Model;
 
-/// Entries of variables, of which some are linked in goal order, each with a chain of cells.
+/// Entries of variables, each with a chain of cells. Some entries are linked in goal order.
 pub struct Links {
     vars: Vars,
     row: LinkRow,
-    // One that is linked still, near which the next place is looked for.
+    // A linked entry, near which the next search starts.
     recent: Option<usize>,
     chains: Chains,
 }
@@ -63,7 +63,7 @@ impl Links {
         }
     }
 
-    /// The entry of a variable that was registered.
+    /// The entry of a variable, if it is registered.
     pub fn entry_of(&self, v: Var) -> Option<u64>
         ensures entry { MatchOption result (has self.now.vars v ≡ false)
             (λ entry. slice_get self.now.vars entry ≡ Some v) }
@@ -112,14 +112,14 @@ impl Links {
         Ok(cell as u64)
     }
 
-    /// How many cells there are.
+    /// The number of cells.
     pub fn cell_count(&self) -> u64
         ensures { result ≡ length self.now.cells }
     {
         self.chains.len() as u64
     }
 
-    /// Makes a cell of an entry, for a demand, of one that isn't in its chain.
+    /// Replaces a cell outside its chain by a cell of this entry and demand.
     pub fn set_cell(&mut self, cell: u64, entry: u64, demand: u64)
         requires cell { cell < length self.old.cells }
         requires entry { entry < length self.old.vars }
@@ -130,7 +130,7 @@ impl Links {
         self.chains.set_cell(cell as usize, Cell { entry, demand });
     }
 
-    /// The variable that was registered.
+    /// The variable of an entry.
     pub fn var_of(&self, entry: u64) -> Var
         requires { entry < length self.now.vars }
         ensures { result ≡ var_at self.now.vars entry }
@@ -138,7 +138,7 @@ impl Links {
         self.vars.at(entry as usize)
     }
 
-    /// The entry for which a cell was registered.
+    /// The entry of a cell.
     pub fn owner_of(&self, cell: u64) -> u64
         requires { cell < length self.now.cells }
         ensures { result ≡ (cell_at self.now.cells cell).entry }
@@ -146,7 +146,7 @@ impl Links {
         self.chains.entry(cell as usize) as u64
     }
 
-    /// The demand that was registered.
+    /// The demand of a cell.
     pub fn demand_of(&self, cell: u64) -> u64
         requires { cell < length self.now.cells }
         ensures { result ≡ (cell_at self.now.cells cell).demand }
@@ -156,7 +156,7 @@ impl Links {
 }
 
 impl Links {
-    /// Puts an entry in its place by goal order.
+    /// Links an entry at its place in goal order.
     pub fn link(&mut self, entry: u64)
         requires entry { entry < length self.old.vars }
         requires new { has self.old.linked (var_at self.old.vars entry) ≡ false }
@@ -169,7 +169,7 @@ impl Links {
         self.recent = Some(entry);
     }
 
-    /// Takes an entry out, which keeps its neighbours.
+    /// Unlinks an entry. It keeps its neighbours.
     pub fn unlink(&mut self, entry: u64)
         requires entry { entry < length self.old.vars }
         requires linked { IsTrue (has self.old.linked (var_at self.old.vars entry)) }
@@ -182,7 +182,7 @@ impl Links {
         self.row.unlink(entry);
     }
 
-    /// Puts an entry between the neighbours that it keeps.
+    /// Links an entry between the neighbours that it keeps.
     pub fn relink(&mut self, entry: u64)
         requires { MayReturn self.old entry }
         ensures linked { self.new ≡ linked self.old entry }
@@ -192,7 +192,7 @@ impl Links {
         self.row.relink(entry as usize);
     }
 
-    /// The first entry in goal order.
+    /// The first linked entry in goal order.
     pub fn first(&self) -> Option<u64>
         ensures first { option_map (var_at self.now.vars) result ≡ first_of self.now.linked }
         ensures within { IfSome result (λ entry. entry < length self.now.vars) }
@@ -201,7 +201,7 @@ impl Links {
         number(self.row.next(None))
     }
 
-    /// The entry that follows.
+    /// The next linked entry.
     pub fn next(&self, entry: u64) -> Option<u64>
         requires entry { entry < length self.now.vars }
         requires linked { IsTrue (has self.now.linked (var_at self.now.vars entry)) }
@@ -214,7 +214,7 @@ impl Links {
 }
 
 impl Links {
-    /// Puts a cell behind the last one of its chain.
+    /// Appends a cell to its chain.
     pub fn chain_push(&mut self, cell: u64)
         requires cell { cell < length self.old.cells }
         requires new { has_node (chain_with self.old cell) cell ≡ false }
@@ -223,7 +223,7 @@ impl Links {
         self.chains.append(cell as usize);
     }
 
-    /// Takes the last cell off its chain.
+    /// Removes the last cell of a chain.
     pub fn chain_pop(&mut self, cell: u64)
         requires cell { cell < length self.old.cells }
         requires last { last_of (chain_with self.old cell) ≡ Some cell }
@@ -244,7 +244,7 @@ impl Links {
         number(self.chains.first(entry as usize))
     }
 
-    /// The cell that follows one in its chain.
+    /// The next cell of a chain.
     pub fn chain_next(&self, cell: u64) -> Option<u64>
         requires cell { cell < length self.now.cells }
         requires linked { IsTrue (has_node (chain_with self.now cell) cell) }
@@ -267,7 +267,7 @@ fn number(place: Option<usize>) -> Option<u64>
     }
 }
 
-// The last entry before a variable.
+// The last linked entry before a variable.
 fn place_before(vars: &Vars, row: &LinkRow, recent: Option<usize>, v: Var) -> Option<usize>
     requires below { AreBelow (length vars.now) row.now.linked }
     requires recent { StandsIn row.now.linked recent }
@@ -285,7 +285,7 @@ fn place_before(vars: &Vars, row: &LinkRow, recent: Option<usize>, v: Var) -> Op
     place
 }
 
-// A place before a variable. It searches from the recent entry back and from the front on, a step of each in turn, so
+// A place before a variable. It searches back from the recent entry and on from the front, by alternate steps, so
 // that the nearer of the two decides how long it takes.
 fn start(vars: &Vars, row: &LinkRow, recent: Option<usize>, v: Var) -> Option<usize>
     requires below { AreBelow (length vars.now) row.now.linked }
@@ -318,7 +318,7 @@ fn is_entry_before(vars: &Vars, place: Option<usize>, v: Var) -> bool
     }
 }
 
-// What stands in front of an entry.
+// The place before an entry.
 fn in_front(row: &LinkRow, place: Option<usize>) -> Option<usize>
     requires { StandsIn row.now.linked place }
     ensures { StandsIn row.now.linked result }
@@ -329,7 +329,7 @@ fn in_front(row: &LinkRow, place: Option<usize>) -> Option<usize>
     }
 }
 
-// What is the recent entry once one was taken out.
+// The recent entry after one is unlinked.
 fn recent_without(row: &LinkRow, recent: Option<usize>, entry: usize) -> Option<usize>
     requires linked { IsTrue (has_node row.now.linked entry) }
     requires recent { StandsIn row.now.linked recent }

@@ -1,4 +1,4 @@
-// Mentions of variables by demands, in chains, so that those of one variable are found.
+// Mentions of variables by demands. Those of one variable are a chain.
 ghost use Rattle.std.specs.Prelude.{◌≡◌, ◌+◌, ◌<◌, ◌≤◌, ◌++◌, List, [], ◌∷◌, Some, false, IsTrue, IfSome, MatchOption};
 ghost use Rattle.std.specs.Prelude.{IfOk, OnOk, OnErr, length, take, drop, map, slice_get, slice_index_or};
 ghost use Rattle.std.specs.Option.{option_map};
@@ -21,13 +21,13 @@ pub struct Mention {
     pub place: usize,
 }
 
-/// Mentions in an order, of which those of one variable are a chain, and the entries of their variables. What was taken
-/// off stays ready, and what is made ready ahead is put on without memory.
+/// Mentions in order, and the entries of their variables. The mentions of one variable are a chain. A popped mention
+/// stays ready, and a ready mention is appended without allocation.
 #[derive(Drop)]
 pub struct Mentions {
-    // A cell for each mention, of its variable's entry. Its demand is the place.
+    // A cell of its variable's entry for each mention. The cell's demand is the mention's place.
     links: Links,
-    // How many of the cells are in use. The others are in no chain.
+    // The number of cells in use. The others are in no chain.
     count: usize,
 }
 
@@ -54,7 +54,7 @@ impl Mentions {
         }
     }
 
-    /// How many there are.
+    /// The number of mentions.
     pub fn len(&self) -> usize
         ensures { result ≡ length self.now.said }
     {
@@ -101,7 +101,7 @@ impl Mentions {
         Ok(found)
     }
 
-    /// The mention at a place of their order.
+    /// The mention with an index.
     pub fn at(&self, index: usize) -> Mention
         requires { index < length self.now.said }
         ensures { result ≡ slice_index_or self.now.said index result }
@@ -113,7 +113,7 @@ impl Mentions {
         }
     }
 
-    /// The entry of the variable that stands at a place of their order, in which those come last that may be said next.
+    /// The entry of the variable of the mention with an index. Ready mentions come behind the others.
     pub fn entry_at(&self, index: usize) -> u64
         requires { index < length self.now.said + length self.now.spare }
         ensures { (m : Mention) → slice_get (self.now.said ++ self.now.spare) index ≡ Some m
@@ -124,8 +124,8 @@ impl Mentions {
 }
 
 impl Mentions {
-    /// Makes a mention ready behind some that are, and tells how many are then. Only this takes memory. Where memory is
-    /// wanting the mentions are as they were; the variable may have an entry then that no mention has.
+    /// Makes a mention ready behind the first `index` ready ones, and returns `index + 1`. Only this allocates. When out of
+    /// memory, the mentions are unchanged, but the variable may have an entry without mentions.
     pub fn prepare(&mut self, index: usize, mention: Mention) -> Result<usize, NoMemory>
         requires { index ≤ length self.old.spare }
         ensures said { self.new.said ≡ self.old.said }
@@ -147,7 +147,7 @@ impl Mentions {
         Ok(index + 1)
     }
 
-    /// Puts the first of those that are ready behind the others.
+    /// Appends the first ready mention.
     pub fn take_up(&mut self)
         requires { 0 < length self.old.spare }
         ensures said { self.new.said ≡ self.old.said ++ take 1 self.old.spare }
@@ -159,7 +159,7 @@ impl Mentions {
         self.count += 1;
     }
 
-    /// Puts the first ones of those that are ready behind the others.
+    /// Appends the first `count` ready mentions.
     pub fn take_up_all(&mut self, count: usize)
         requires { count ≤ length self.old.spare }
         ensures { self.new.said ≡ self.old.said ++ take count self.old.spare }
@@ -169,7 +169,7 @@ impl Mentions {
         }
     }
 
-    /// Takes the last mention off.
+    /// Removes the last mention.
     pub fn pop(&mut self) -> Option<Mention>
         ensures last { MatchOption result ((self.old.said ≡ []) × (self.new.said ≡ []))
             (λ last. self.old.said ≡ self.new.said ++ last ∷ []) }
@@ -185,7 +185,7 @@ impl Mentions {
         Some(mention)
     }
 
-    /// Keeps the first mentions.
+    /// Keeps the first `len` mentions.
     pub fn cut(&mut self, len: usize)
         ensures { self.new.said ≡ take len self.old.said }
     {
@@ -195,9 +195,9 @@ impl Mentions {
     }
 }
 
-// The entries of the variables, of which some are linked in goal order.
+// The entries of the variables. Some are linked in goal order.
 impl Mentions {
-    /// The entry of a variable that was mentioned or made ready at some time.
+    /// The entry of a variable, if it was ever made ready.
     pub fn entry_of(&self, v: Var) -> Option<u64>
         ensures { MatchOption result (has self.now.row.vars v ≡ false)
             (λ entry. slice_get self.now.row.vars entry ≡ Some v) }
@@ -212,7 +212,7 @@ impl Mentions {
         self.links.var_of(entry)
     }
 
-    /// Puts an entry in its place by goal order.
+    /// Links an entry at its place in goal order.
     pub fn link(&mut self, entry: u64)
         requires entry { entry < length self.old.row.vars }
         requires new { has self.old.row.linked (var_at self.old.row.vars entry) ≡ false }
@@ -223,7 +223,7 @@ impl Mentions {
         self.links.link(entry);
     }
 
-    /// Takes an entry out, which keeps its neighbours.
+    /// Unlinks an entry. It keeps its neighbours.
     pub fn unlink(&mut self, entry: u64)
         requires entry { entry < length self.old.row.vars }
         requires linked { IsTrue (has self.old.row.linked (var_at self.old.row.vars entry)) }
@@ -235,7 +235,7 @@ impl Mentions {
         self.links.unlink(entry);
     }
 
-    /// Puts an entry between the neighbours that it keeps.
+    /// Links an entry between the neighbours that it keeps.
     pub fn relink(&mut self, entry: u64)
         requires { MayReturn self.old.row entry }
         ensures said { self.new.said ≡ self.old.said }
@@ -254,7 +254,7 @@ impl Mentions {
         self.links.first()
     }
 
-    /// The linked entry that follows one.
+    /// The next linked entry.
     pub fn next(&self, entry: u64) -> Option<u64>
         requires entry { entry < length self.now.row.vars }
         requires linked { IsTrue (has self.now.row.linked (var_at self.now.row.vars entry)) }
@@ -267,7 +267,7 @@ impl Mentions {
 }
 
 impl Mentions {
-    // The places that the cells of an entry's chain have.
+    // The places of the cells of an entry's chain.
     fn places_in(&self, alloc: Global, entry: u64) -> Result<Vec<usize>, NoMemory>
         requires { entry < length self.now.row.vars }
         ensures { IfOk result (λ found.

@@ -1,9 +1,9 @@
-// Rings of nodes by number: which one stands before each, and which one behind it.
+// Rings of nodes by number: the previous and the next node of each.
 ghost use Rattle.std.specs.Prelude.{◌≡◌, ◌<◌, length, Some, Option, ℕ};
 ghost use Rattle.goal_links.specs.Ring.{next_at, prev_at, with_place, next_without, prev_without, next_with, prev_with};
 ghost use Rattle.goal_links.specs.Ring.{IsWithin};
 
-/// The neighbours of a node. Those of a ring's ends are its last and its first node.
+/// The neighbours of a node. The ends of a ring are a node too: its last and its first node are their neighbours.
 #[derive(Clone, Copy, Debug, Drop)]
 pub(crate) struct RingNode {
     pub(crate) prev: Option<usize>,
@@ -20,7 +20,7 @@ pub(crate) fn alone() -> RingNode
     }
 }
 
-// Lets a node follow a place. Behind no node it is the first of the ring.
+// Sets the next node of a place. For `None` it is the first node of the ring.
 fn set_next(ends: &mut RingNode, nodes: &mut [RingNode], place: Option<usize>, to: Option<usize>)
     requires { IsWithin (length nodes.old) place }
     ensures next { (at : Option ℕ) →
@@ -33,7 +33,7 @@ fn set_next(ends: &mut RingNode, nodes: &mut [RingNode], place: Option<usize>, t
     }
 }
 
-// Lets a node stand before a place. Before no node it is the last of the ring.
+// Sets the previous node of a place. For `None` it is the last node of the ring.
 fn set_prev(ends: &mut RingNode, nodes: &mut [RingNode], place: Option<usize>, to: Option<usize>)
     requires { IsWithin (length nodes.old) place }
     ensures prev { (at : Option ℕ) →
@@ -46,7 +46,7 @@ fn set_prev(ends: &mut RingNode, nodes: &mut [RingNode], place: Option<usize>, t
     }
 }
 
-/// Joins the neighbours of a node, which keeps them.
+/// Joins the neighbours of a node. The node keeps them.
 pub(crate) fn unlink(ends: &mut RingNode, nodes: &mut [RingNode], node: usize)
     requires node { node < length nodes.old }
     requires prev { IsWithin (length nodes.old) (prev_at ends.old nodes.old (Some node)) }

@@ -1,4 +1,4 @@
-// A row of nodes, of which those that were taken out keep their neighbours.
+// A row of linked nodes. Unlinked nodes keep their neighbours.
 ghost use Rattle.std.specs.Prelude.{◌≡◌, ◌<◌, ◌-◌, ◌++◌, [], ◌∷◌, List, ℕ, true, false, IsTrue, Some, None, Option};
 ghost use Rattle.std.specs.Prelude.{IfSome, OnOk, OnErr, length, slice_get, slice_set};
 ghost use Rattle.goal_links.specs.Beside.{first_of};
@@ -10,7 +10,7 @@ use plan_types::NoMemory;
 use std::alloc::Global;
 use std::marker::Model;
 
-/// Nodes by number, of which some are linked.
+/// Nodes by number. Some are linked.
 #[derive(Drop)]
 pub(crate) struct LinkRow {
     ends: RingNode,
@@ -41,7 +41,7 @@ impl LinkRow {
         }
     }
 
-    /// One node more, outside and without neighbours.
+    /// Adds an unlinked node without neighbours.
     pub(crate) fn add(&mut self) -> Result<(), NoMemory>
         ensures ok { OnOk result (self.new ≡ with_node self.old) }
         ensures err { OnErr result (self.new ≡ self.old) }
@@ -50,7 +50,7 @@ impl LinkRow {
         Ok(())
     }
 
-    /// Takes the last node away, which stands outside.
+    /// Removes the last node, which is unlinked.
     pub(crate) fn drop_last(&mut self)
         requires { has_node self.old.linked (length self.old.kept - 1) ≡ false }
         ensures { (line : Line) → self.old ≡ with_node line → self.new ≡ line }
@@ -58,7 +58,7 @@ impl LinkRow {
         let _ = self.nodes.pop();
     }
 
-    /// What follows a place, of which None stands before all.
+    /// The next node of a place. `None` is the place before all nodes.
     pub(crate) fn next(&self, place: Option<usize>) -> Option<usize>
         requires { StandsIn self.now.linked place }
         ensures next { result ≡ first_of (behind place self.now.linked) }
@@ -79,7 +79,7 @@ impl LinkRow {
         self.nodes[node].prev
     }
 
-    /// Puts a node behind a place.
+    /// Links a node behind a place.
     pub(crate) fn link(&mut self, place: Option<usize>, node: usize)
         requires node { node < length self.old.kept }
         requires new { has_node self.old.linked node ≡ false }
@@ -93,7 +93,7 @@ impl LinkRow {
         relink(&mut self.ends, &mut self.nodes, node);
     }
 
-    /// Takes a node out, which keeps its neighbours.
+    /// Unlinks a node. It keeps its neighbours.
     pub(crate) fn unlink(&mut self, node: usize)
         requires { IsTrue (has_node self.old.linked node) }
         ensures unlinked { self.new ≡ unlinked self.old node }
@@ -102,7 +102,7 @@ impl LinkRow {
         unlink(&mut self.ends, &mut self.nodes, node);
     }
 
-    /// Puts a node between the neighbours that it keeps.
+    /// Links a node between the neighbours that it keeps.
     pub(crate) fn relink(&mut self, node: usize)
         requires { MayReturn self.old node }
         ensures linked { (front rest : List ℕ) → IsGap self.old node front rest

@@ -9,7 +9,7 @@ use plan_types::NoMemory;
 use std::alloc::Global;
 use std::marker::Model;
 
-/// Variables, each once.
+/// A list of variables, each once.
 pub(crate) struct Vars {
     keys: IndexSet<Var>,
 }
@@ -67,7 +67,7 @@ impl Vars {
         Ok(())
     }
 
-    /// Keeps the first variables.
+    /// Keeps the first `len` variables.
     pub(crate) fn cut(&mut self, len: usize)
         ensures { self.new ≡ take len self.old }
     {

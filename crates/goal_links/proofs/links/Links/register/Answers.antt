@@ -16,7 +16,7 @@ pub returns-in-Some-clause-ok : goal.returns-in-Some-clause-ok
 returns-in-Some-clause-ok c =
     registered-again c.args.self.now c.args.v c.in-Some.entry (ap (λ (s : Entries). slice_get s.vars c.in-Some.entry) (sym c.self.view_is) ∙ c.in-Some.ensures)
 
--- the parts with one entry more
+-- the parts with one more entry
 parts : (vars vars2 : List Var) (row row2 : Line) (chains chains2 : Chained) (P : List Var → Line → Chained → Type 0)
     → vars2 ≡ vars → row2 ≡ row → chains2 ≡ chains → P vars row chains → P vars2 row2 chains2
 parts vars vars2 row row2 chains chains2 P e f g h = subst (λ v. P v row2 chains2) (sym e) (subst (λ r. P vars r chains2) (sym f) (subst (λ c. P vars row c) (sym g) h))

@@ -10,7 +10,7 @@ use Rattle.goal_links.specs.Mentions.{Mentioned, AreSaid, KeepRow, mention_in, m
 use Rattle.goal_links.proofs.ChainWalks.{at-entry, registered-said, registered-front, registered-spare, registered-row, spare-count, spare-outside, set-said, set-mentioned, set-ready, added-said, added-mentioned, added-ready}
 use Rattle.goal_links.proofs.mentions.Mentions.prepare.Goals as goal
 
--- what is registered first
+-- the entries after the variable is registered
 module _ (s t : Entries) (n : ℕ) (v : Var) (now : Mentioned) (h : AreSaid s n) (view : mentioned s n ≡ now) (is : t ≡ registered s v) where
   said-first : AreSaid t n
   said-first = subst (λ (x : Entries). AreSaid x n) (sym is) (registered-said s n v h)
@@ -27,7 +27,7 @@ module _ (s t : Entries) (n : ℕ) (v : Var) (now : Mentioned) (h : AreSaid s n)
   count-first : n + length now.spare ≡ length t.cells
   count-first = ap (λ (l : List Mention). n + length l) (sym spare-first) ∙ spare-count t n said-first
 
-  -- a cell in its place, or one more, changes nothing of the rows
+  -- a cell replaced or added leaves the rows unchanged
   row-then : (u : Entries) (cells : List Cell) → u ≡ record t { cells = cells } → KeepRow now.row u
   row-then u cells e = subst (λ (x : Entries). KeepRow now.row x) (sym e) (record { linked = row-first.linked; vars = row-first.vars; known = row-first.known; kept = row-first.kept })
 
@@ -91,7 +91,7 @@ pub returns-in_err-register_cell-clause-said : goal.returns-in_err-register_cell
 returns-in_err-register_cell-clause-said c =
     ap (λ (x : Entries). mentions (used c.self.inside.count x)) c.in_err-register_cell.ensures.err ∙ front-first c.self.inside.links c.register.new.self c.self.inside.count c.args.mention.var c.args.self.now c.self.invariant c.self.view_is c.in_ok-entry.ensures.ok
 
--- an entry more changes nothing of what is ready
+-- one more entry leaves the ready mentions unchanged
 pub returns-in_err-register_cell-clause-err : goal.returns-in_err-register_cell-clause-err
 returns-in_err-register_cell-clause-err c =
     on-err c.from_residual-in_err-register_cell.result (map (mention_in c.register_cell.new.self.vars) (drop c.self.inside.count c.register_cell.new.self.cells) ≡ c.args.self.now.spare)

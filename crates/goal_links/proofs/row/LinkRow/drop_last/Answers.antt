@@ -6,7 +6,7 @@ use Rattle.goal_links.specs.Row.{Line, has_node, kept_from, with_node}
 use Rattle.goal_links.proofs.Rows.{row-popped, line-popped, line, none-popped}
 use Rattle.goal_links.proofs.row.LinkRow.drop_last.Goals as goal
 
--- the last node is outside, or there is none
+-- the last node is unlinked, or there is none
 popped : (ends : RingNode) (nodes less : List RingNode) (o : Option RingNode) → nodes ≡ less ++ option_to_list o → (o ≡ None → length nodes ≡ 0) → IsRing ends nodes (ring_of ends nodes)
     → has_node (ring_of ends nodes) (length (kept_from (ring_of ends nodes) 0 nodes) - 1) ≡ false
     → IsRing ends less (ring_of ends less) × ((now : Line) → line (ring_of ends nodes) (kept_from (ring_of ends nodes) 0 nodes) ≡ with_node now

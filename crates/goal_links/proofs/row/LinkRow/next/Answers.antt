@@ -23,7 +23,7 @@ returns-in-Some-clause-next c =
     ∙ linked-next c.self.inside.ends c.self.inside.nodes.items ns c.self.invariant c.in-Some.node in'
     ∙ ap (λ p. first_of (behind p ns)) (sym c.in-Some.is) ∙ ap (λ (l : List ℕ). first_of (behind c.args.place l)) (ap (λ (v : Line). v.linked) c.self.view_is)
 
--- what follows a node, and that it is linked
+-- the next node, which is linked
 follows : (ends : RingNode) (nodes : List RingNode) → IsRing ends nodes (ring_of ends nodes) → (place : Option ℕ) → StandsIn (ring_of ends nodes) place → (o : Option ℕ)
     → o ≡ first_of (behind place (ring_of ends nodes))
     → IfSome o (λ n. behind place (ring_of ends nodes) ≡ n ∷ behind (Some n) (ring_of ends nodes)) × IfSome o (λ n. has_node (ring_of ends nodes) n ≡ true)

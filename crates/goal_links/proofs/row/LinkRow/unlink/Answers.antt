@@ -26,7 +26,7 @@ unlink-requires-clause-next c =
     subst (λ (l : List RingNode). IsWithin (length l) (next_at c.self.inside.ends l (Some c.args.node))) (sym c.deref_mut.ensures.value)
     ((sides-within c.self.inside.ends c.self.inside.nodes.items c.self.invariant c.args.node in').1)
 
--- the row that is left
+-- the row without its last node
 after : (c : goal.After-self-1) → IsRow c.unlink.new.ends (take c.self.inside.nodes.len (c.unlink.new.nodes ++ drop (length c.unlink.new.nodes) c.self.inside.nodes.items))
     (without_node c.args.node (ring_of c.self.inside.ends c.self.inside.nodes.items))
     (set (kept_from (ring_of c.self.inside.ends c.self.inside.nodes.items) 0 c.self.inside.nodes.items) c.args.node (Some (beside (eqb c.args.node) (ring_of c.self.inside.ends c.self.inside.nodes.items))))
