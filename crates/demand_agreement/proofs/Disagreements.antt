@@ -1,4 +1,4 @@
--- Shared: which demands are found that disagree with one.
+-- Shared: the demands found are those that disagree with one.
 use Rattle.std.proofs.Common.{◌≡◌, ℕ, zero, suc, ◌+◌, ◌<◌, arith, length, Bool, true, false, cond, ◌&&◌, List, [], ◌∷◌, ◌++◌, Option, Some, None, refl, sym, ap, ◌∙◌, subst, inl, inr, append_assoc, length-append}
 use Rattle.std.specs.Prelude.{nat_eq, option_to_list}
 use Rattle.std.specs.List.{Contains, filter, flat_map, slice_get}
@@ -120,13 +120,13 @@ twins-split owner trail kept last h =
     ∙ ap (λ l. filter test kept ++ l) (filter-within test wider (twin-of owner) (option_to_list last))
 
 module _ (trail : List Choice) (ds : List Demand) where
-  -- the demand at a place must agree with one of an owner on a target, and doesn't
+  -- the demand at a place disagrees with one with this owner and target
   pub record IsApart (owner : Option Choice) (target : Var) (k : ℕ) : Type 0 where
     pub within : k < length ds
     pub must : must_agree owner target (owner_of (demand_at ds k).when) (demand_at ds k).target ≡ true
     pub values : differ (value_in trail target) (value_in trail (demand_at ds k).target) ≡ true
 
-  -- what is found
+  -- each demand found disagrees
 
   by-twin : (owner : Choice) (target : Var) (twin : Choice) (k : ℕ) → same_var (under owner target) target ≡ true → are_twins owner twin ≡ true
       → Contains (apart_by trail ds target twin) k → IsApart (Some owner) target k
@@ -160,7 +160,7 @@ module _ (trail : List Choice) (ds : List Demand) where
         | false ↦ λ own i. absurd (contains-none k i)
       ] refl h
 
-  -- and all of it
+  -- each demand that disagrees is found
 
   pub clashing-has : (owner : Option Choice) (target : Var) (k : ℕ) → IsApart owner target k → is_yes (value_in trail) (demand_at ds k) ≡ true → Contains (clashing trail ds owner target) k
   clashing-has owner target k apart is =

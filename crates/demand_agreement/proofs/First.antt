@@ -1,4 +1,4 @@
--- The least of the pairs that are found is the first that disagrees.
+-- The least pair found is the first that disagrees.
 use Rattle.std.proofs.Common.{◌≡◌, ℕ, zero, suc, ◌+◌, ◌<◌, ◌≤◌, arith, length, Bool, true, false, cond, List, [], ◌∷◌, ◌++◌, map, Some, None, refl, sym, ap, ◌∙◌, subst, inl, inr, append_assoc, length-append}
 use Rattle.std.specs.Prelude.{nat_lt, find}
 use Rattle.std.specs.List.{Contains, slice_get}
@@ -23,7 +23,7 @@ use Rattle.demand_agreement.proofs.NumberBounds.{below-one}
 use Rattle.demand_agreement.proofs.Disagreements.{at-get, get-at, get-front, IsApart, clashing-is, clashing-has}
 use Rattle.demand_agreement.proofs.Least.{IsAtMost, least-is, least-none}
 
--- the first that passes stands at a place before which none does
+-- the first item that passes has a place before which none passes
 find-front : {X : Type 0} (test : X → Bool) (xs ys : List X) (k : ℕ) (z : X) → slice_get xs k ≡ Some z → test z ≡ true
     → ((i : ℕ) (y : X) → i < k → slice_get xs i ≡ Some y → test y ≡ false) → find test (xs ++ ys) ≡ Some z
 find-front test [] ys k z h passes none = absurd (cc h)
@@ -39,7 +39,7 @@ find-rest test [] ys none = refl
 find-rest test (x ∷ xs) ys none =
     ap (λ b. cond b (Some x) (find test (xs ++ ys))) (none x (contains-head x xs)) ∙ find-rest test xs ys (λ y (k, within, is). none y (suc k, omega (arith, within), is))
 
--- what isn't behind a pair
+-- a pair that isn't behind another one
 
 out-later : (c : Clash) (i j : ℕ) → j < c.later → IsAtMost c (record { later = j; earlier = i }) → ⊥
 out-later c i j less (inl l) = omega (arith, l, less)
@@ -69,7 +69,7 @@ module _ (trail : List Choice) (all : List Demand) where
     pub within : c.later < length all
     pub apart : Apart c.earlier c.later ≡ true
 
-  -- none disagree before it
+  -- no pair before it disagrees
   pub record IsFirstPair (c : Clash) : Type 0 where
     pub pair : IsPair c
     pub first : (i j : ℕ) → i < j → j < length all → Apart i j ≡ true → IsAtMost c (record { later = j; earlier = i })
@@ -114,7 +114,7 @@ module _ (trail : List Choice) (all : List Demand) where
             ∙ ap (λ y. Some (x, y)) (sym here ∙ ap (demand_at all) (sym at-last))
       ]
 
-  -- ---- what is found
+  -- ---- the pairs found
 
   module _ (active : (d : Demand) → Contains all d → is_yes (value_in trail) d ≡ true) (places : List ℕ) (within : AllBelow (length all) places) where
     yes-at : (k : ℕ) → k < length all → is_yes (value_in trail) (demand_at all k) ≡ true
@@ -123,7 +123,7 @@ module _ (trail : List Choice) (all : List Demand) where
     abbrev Found : List Clash
     Found = clashes trail all places
 
-    -- the demand at a place disagrees with those that are found for it
+    -- the demand at a place disagrees with those found for it
     apart-at : (place k : ℕ) → IsApart trail all (owner_of (demand_at all place).when) (demand_at all place).target k → Apart place k ≡ true
     apart-at place k h = are-disagreeing trail (demand_at all place) (demand_at all k) (record { must = h.must; values = h.values })
 
@@ -149,7 +149,7 @@ module _ (trail : List Choice) (all : List Demand) where
         let apart = clashing-is trail all (owner_of d.when) d.target k other in
         subst (λ x. IsPair x) is (found-pair place k (below-one (length all) places place within among) apart.within (apart-at place k apart))
 
-    -- a pair with a demand at one of the places is found
+    -- a pair that disagrees, with a demand at one of the places, is found
     found-by : (place k : ℕ) → Contains places place → k < length all → Apart place k ≡ true → Contains Found (clash_of place k)
     found-by place k among high h =
         let d = demand_at all place in

@@ -41,7 +41,7 @@ before-no a b h =
           inr (sym same, ltb-false a.earlier b.earlier no)
     ]
 
--- the least of some pairs is one of them, and none is below it
+-- the least pair of a list is a member, and no member is before it
 pub record IsLeast (cs : List Clash) (c : Clash) : Type 0 where
   pub member : Contains cs c
   pub least : (x : Clash) → Contains cs x → IsAtMost c x

@@ -1,4 +1,4 @@
--- Shared: numbers that are all below another one.
+-- Shared: lists of numbers below a bound.
 use Rattle.std.proofs.Common.{◌≡◌, ℕ, zero, suc, ◌+◌, ◌<◌, ◌≤◌, arith, length, get_or, Bool, true, false, cond, List, [], ◌∷◌, ◌++◌, filter, subst, ◌∙◌}
 use Rattle.std.proofs.lemmas.List.{get_or_default}
 use Rattle.std.specs.List.{Contains}

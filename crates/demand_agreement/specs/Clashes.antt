@@ -13,7 +13,7 @@ use Rattle.choice_problem.specs.ConflictSet.{set_of}
 use Rattle.demand_agreement.specs.declared.clash.Clash.{Clash}
 use Rattle.demand_agreement.specs.Places.{demand_at, places_on}
 
--- of two demands that disagree at least one stands at one of the places
+-- of any two demands that disagree, at least one is at one of the places
 abbrev pub AreSuspects : List Choice → List Demand → List ℕ → Type 0
 AreSuspects trail demands places = (i j : ℕ) (d e : Demand) → slice_get demands i ≡ Some d → slice_get demands j ≡ Some e → disagree trail (d, e) ≡ true
     → Contains places i ⊎ Contains places j
@@ -23,31 +23,31 @@ abbrev pub is_first : Choice → List Choice → Bool
 is_first c [] = false
 is_first c (owner ∷ others) = same_var owner.var c.var && nat_eq owner.val c.val
 
--- the places of the demands that a twin owns on its own part, where that has a value that differs
+-- the places of a twin's demands on the target under its own qualifier, where the two values differ
 abbrev pub apart_by : List Choice → List Demand → Var → Choice → List ℕ
 apart_by trail demands target twin =
     cond (differ (value_in trail target) (value_in trail (under twin target)))
     (filter (λ k. is_first twin (demand_at demands k).when) (places_on (under twin target) demands)) []
 
--- those of all twins of an owner whose demand stands under its own qualifier
+-- those of all twins of an owner, where the target is under the owner's qualifier
 abbrev pub apart_from : List Choice → List Demand → Choice → Var → List ℕ
 apart_from trail demands owner target =
     cond (same_var (under owner target) target) (flat_map (apart_by trail demands target) (filter (are_twins owner) trail)) []
 
--- the places of the demands that disagree with one of an owner on a target
+-- the places of the demands that disagree with a demand with this owner and target
 abbrev pub clashing : List Choice → List Demand → Option Choice → Var → List ℕ
 clashing trail demands None target = []
 clashing trail demands (Some owner) target = apart_from trail demands owner target
 
--- two places
+-- the pair of two places, as later and earlier
 abbrev pub clash_of : ℕ → ℕ → Clash
 clash_of m n = cond (nat_lt m n) (record { later = n; earlier = m }) (record { later = m; earlier = n })
 
--- the pairs that a place is in
+-- the pairs of a place with those of the demands that disagree with its own
 abbrev pub clashes_at : List Choice → List Demand → ℕ → List Clash
 clashes_at trail demands place = map (clash_of place) (clashing trail demands (owner_of (demand_at demands place).when) (demand_at demands place).target)
 
--- the pairs that some places are in
+-- the pairs of several places
 abbrev pub clashes : List Choice → List Demand → List ℕ → List Clash
 clashes trail demands places = flat_map (clashes_at trail demands) places
 
@@ -55,20 +55,20 @@ clashes trail demands places = flat_map (clashes_at trail demands) places
 abbrev pub set_named : List Demand → Clash → List Var
 set_named demands clash = set_of (named_by (demand_at demands clash.earlier) ++ named_by (demand_at demands clash.later))
 
--- by the later place, and then by the earlier
+-- whether a pair comes first: by the later place, and then by the earlier
 abbrev pub comes_before : Clash → Clash → Bool
 comes_before a b = nat_lt a.later b.later || (nat_eq a.later b.later && nat_lt a.earlier b.earlier)
 
--- the lesser of two, where there are two
+-- the lesser of two pairs, or the second where there is no first
 abbrev pub lesser : Option Clash → Clash → Clash
 lesser None c = c
 lesser (Some first) c = cond (comes_before c first) c first
 
--- the least of some and of one before them
+-- the least of an optional first pair and of a list
 abbrev pub least_from : Option Clash → List Clash → Option Clash
 least_from first [] = first
 least_from first (c ∷ cs) = least_from (Some (lesser first c)) cs
 
--- the least of some
+-- the least pair of a list
 abbrev pub least : List Clash → Option Clash
 least cs = least_from None cs

@@ -1,4 +1,4 @@
-// The first demands that disagree.
+// The first two demands that disagree.
 ghost use Rattle.std.specs.Prelude.{◌≡◌, ◌<◌, ◌++◌, true, Some, IfOk, OnOk, List, length, filter, slice_get};
 ghost use Rattle.std.specs.List.{Contains};
 ghost use Rattle.choice_problem.specs.declared.problem.Demand.{Demand};
@@ -16,7 +16,7 @@ use choice_problem::{Choice, ConflictSet, Demand, Values, Var, is_same, push_nam
 use plan_types::NoMemory;
 use std::alloc::Global;
 
-/// Demands in an order.
+/// Demands in order.
 pub trait Asked {
     ghost demands: { Self → List Demand };
 
@@ -29,8 +29,8 @@ pub trait Asked {
         ensures { IfOk result (λ found. found.items ≡ places_on v (demands self.now)) };
 }
 
-/// The set of the variables that the first two demands name which must agree and don't. One of any two such demands
-/// stands at one of the places.
+/// The set of the variables that the first two demands that disagree name. Of any two demands that disagree, one
+/// is at one of the places.
 pub fn agreement_set_of<A: Asked>(
     alloc: Global,
     asked: &A,
@@ -99,7 +99,7 @@ fn push_clashes<A: Asked>(
     Ok(())
 }
 
-// The places of the demands that disagree with one.
+// The places of the demands that disagree with this one.
 fn clashing<A: Asked>(
     alloc: Global,
     asked: &A,
@@ -135,7 +135,7 @@ fn apart_from<A: Asked>(
     Ok(found)
 }
 
-// The places of the demands that a twin owns on its own part, looked at only where that part has a value that differs.
+// Adds the places of a twin's demands on the target under its own qualifier, only where the two values differ.
 fn push_apart<A: Asked>(
     alloc: Global,
     found: &mut Vec<usize>,
@@ -154,7 +154,7 @@ fn push_apart<A: Asked>(
     push_owned(found, asked, places.as_slice(), twin)
 }
 
-// Those of some places whose demand a choice owns.
+// Adds those of the places whose demand a choice owns.
 fn push_owned<A: Asked>(
     found: &mut Vec<usize>,
     asked: &A,

@@ -1,6 +1,6 @@
-//! Demands that must agree: the set of the variables that the first two name whose targets have different values. The
-//! search starts at some demands, looks among what twins of their owners ask for, and compares only where the targets
-//! differ.
+//! The set of the first two demands that disagree: they must agree, but their targets have different values. The search
+//! starts at given demands and looks at those that twins of their owners own. It compares only where the targets'
+//! values differ.
 #![tactic(auto)]
 
 mod agreement;

@@ -44,7 +44,7 @@ pub(crate) fn differ(one: Option<u64>, other: Option<u64>) -> bool
     }
 }
 
-/// The choices that take a choice's instance under other qualifiers.
+/// The twins of a choice among the choices of a trail.
 pub(crate) fn twins_of(
     alloc: Global,
     trail: &Values<'_>,
