@@ -124,8 +124,8 @@ impl Mentions {
 }
 
 impl Mentions {
-    /// Makes a mention ready behind the first `index` ready ones, and returns `index + 1`. Only this allocates. When out
-    /// of memory, the mentions are unchanged, but the variable may have an entry without mentions.
+    /// Makes a mention ready behind the first `index` ready ones, and returns `index + 1`. Only this allocates.
+    /// When out of memory, the mentions are unchanged, but the variable may have an entry without mentions.
     pub fn prepare(&mut self, index: usize, mention: Mention) -> Result<usize, NoMemory>
         requires { index ≤ length self.old.spare }
         ensures said { self.new.said ≡ self.old.said }
