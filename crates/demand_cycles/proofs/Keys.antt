@@ -1,4 +1,4 @@
--- Keys, each of which stands once.
+-- Keys without repetition.
 use Rattle.std.proofs.Common.{◌≡◌, ℕ, ◌+◌, ◌<◌, ◌≤◌, Bool, true, false, cond, not, ◌||◌, List, [], ◌∷◌, ◌++◌, length, drop, get_or, refl, sym, ap, ◌∙◌, arith, append_assoc, append-nil, add-one, drop-cons}
 use Rattle.std.specs.List.{Contains}
 use Rattle.std.specs.Prelude.{if◌then◌else◌}
@@ -55,7 +55,7 @@ has-with_keys keys [] u = sym (or-false (has keys u))
 has-with_keys keys (v ∷ vars) u =
     has-with_keys (with_key keys v) vars u ∙ ap (λ b. b || has vars u) (has-with_key keys v u) ∙ or_assoc (has keys u) (same_var v u) (has vars u)
 
--- the keys stay in front
+-- the keys stay a prefix
 with_key-front : (keys : List Var) (v : Var) → (more : List Var) × (with_key keys v ≡ keys ++ more)
 with_key-front keys v =
     elim (has keys v) as (λ b. (more : List Var) × (cond b keys (keys ++ v ∷ []) ≡ keys ++ more)) [ true ↦ ([], sym (append-nil keys)) | false ↦ (v ∷ [], refl) ]
@@ -67,7 +67,7 @@ with_keys-front keys (v ∷ vars) =
     let rest = with_keys-front (with_key keys v) vars in
     (one.0 ++ rest.0, rest.1 ∙ ap (λ l. l ++ rest.0) one.1 ∙ append_assoc keys one.0 rest.0)
 
--- what stands once within a list is no longer than it
+-- a list without repetition is no longer than one that has its members
 pub once-within : (keys vars : List Var) → are_once keys ≡ true → ((v : Var) → has keys v ≡ true → Contains vars v) → length keys ≤ length vars
 once-within [] vars h all = omega arith
 once-within (v ∷ keys) vars h all =

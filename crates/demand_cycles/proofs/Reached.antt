@@ -1,4 +1,4 @@
--- A search against the edges: what is found, and that all is in the end.
+-- A search against the edges: what it has found, and that it finds all.
 use Rattle.std.proofs.Common.{◌≡◌, ℕ, zero, suc, ◌+◌, ◌<◌, ◌≤◌, ◌↔◌, true, false, List, [], ◌∷◌, ◌++◌, Some, length, take, map, slice_get, refl, sym, ap, ◌∙◌, subst, inl, inr, ◌⊎◌, arith, length-append}
 use Rattle.std.specs.List.{Contains}
 use Rattle.std.proofs.lemmas.Bool.{false≢true, or_cases, or_left, or_right}
@@ -35,7 +35,7 @@ reached-none edges goals = record {
   closed = λ w u h. absurd (false≢true h);
 }
 
--- what is in the front with one more is in the front, or is that one
+-- a member of a prefix with one more item is in the prefix, or is that item
 front-cases : (keys : List Var) (place : ℕ) (v w : Var) → slice_get keys place ≡ Some v → has (take (suc place) keys) w ≡ true → (has (take place keys) w ≡ true) ⊎ (v ≡ w)
 front-cases [] place v w e h = absurd (false≢true h)
 front-cases (x ∷ keys) zero v w e h =
@@ -85,7 +85,7 @@ reached-all edges goals keys place part done v =
     let on = goal-of edges goals v h in
     closed-way edges keys closed v on.0 on.2 (part.begun on.0 (contains-has goals on.0 on.1)))
 
--- a variable that leads to a goal is one, or an edge leaves it
+-- a variable that leads to a goal is a goal, or has an edge
 source-of : (edges : List Edge) (goals : List Var) (v w : Var) → Contains goals w → Way edges v w → Contains (goals ++ map (λ (e : Edge). e.from) edges) v
 source-of edges goals v w h (start e) = contains-left goals (map (λ (e : Edge). e.from) edges) v (subst (λ x. Contains goals x) (sym e) h)
 source-of edges goals v w h (step e k l way) =

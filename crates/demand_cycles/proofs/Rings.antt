@@ -1,4 +1,4 @@
--- Demands on cycles: each cycle passes an edge that the first demands don't have, where those have no cycle.
+-- Where the first demands have no cycle, each cycle has an edge of a later demand.
 use Rattle.std.proofs.Common.{◌≡◌, ◌↔◌, ℕ, ◌+◌, ◌≤◌, Bool, true, false, cond, List, [], ◌∷◌, ◌++◌, Some, None, length, take, drop, slice_get, refl, sym, ap, ◌∙◌, subst, inl, inr, ◌⊎◌, arith, append_assoc, append-nil}
 use Rattle.std.specs.Prelude.{option_to_list, flat_map, filter}
 use Rattle.std.specs.List.{Contains, list_any}
@@ -39,7 +39,7 @@ edge-of (c ∷ others) target v h = elim (contains-cases c.var [] v h) [
   | inr none ↦ absurd (contains-none v none)
 ]
 
--- the owners of the demands with a target are what edges to it leave
+-- the owners of the demands on a target are the starts of edges to it
 pub sources-of : (demands : List Demand) (to v : Var)
     → (Contains (flat_map (λ (d : Demand). option_to_list (owner_of d)) (filter (λ (d : Demand). same_var d.target to) demands)) v) ↔ (HasEdge (edges_of demands) v to)
 sources-of demands to v = (
@@ -66,7 +66,7 @@ lies-by edges (c ∷ others) target owner h = ap (λ v. leads_to_any edges (v �
 pub lies-led : (edges : List Edge) (d : Demand) (owner : Var) → owner_of d ≡ Some owner → leads_to_any edges (owner ∷ []) d.target ≡ lies_on_cycle edges d
 lies-led edges d owner h = lies-by edges d.when d.target owner h
 
--- an edge of a demand, and a way back
+-- an edge of a demand, and a path back
 record Ring (edges : List Edge) (d : Demand) : Type 0 where
   edge : Edge
   by : Contains (edges_by d) edge
@@ -97,7 +97,7 @@ lies-ended demands d h ends = false_from_ne_true (lies_on_cycle (edges_of demand
       | inr on ↦ ends on.0 (subst (λ v. HasEdge (edges_of demands) v on.0) to on.1)
     ])
 
--- a way takes edges of the first kind alone, or one of the other
+-- a walk has edges of the first kind alone, or one of the other
 ways : (first other all : List Edge) → ((e : Edge) → Contains all e → Contains first e ⊎ Contains other e) → (v w : Var) → Way all v w
     → Way first v w ⊎ ((e : Edge) × Contains other e × Way all v e.from × Way all e.to w)
 ways first other all kinds v w (start e) = inl (start e)
@@ -209,7 +209,7 @@ the-set demands n (v ∷ owners) e some =
 drop-next : {X : Type 0} (xs : List X) (n : ℕ) (x : X) → slice_get xs n ≡ Some x → drop n xs ≡ x ∷ drop (n + 1) xs
 drop-next xs n x e = drop_at xs n x (slice_get_within xs n x e) (sym (get_or_from_slice_get xs n x x e))
 
--- what a list made of the demands that pass gets at each
+-- what each demand adds to a list made of those that pass
 module _ (test : Demand → Bool) (f : Demand → List Var) where
   pub kept-one : (demands : List Demand) (n : ℕ) (d : Demand) (vars : List Var) → slice_get demands n ≡ Some d → test d ≡ true
       → (vars ++ f d) ++ flat_map f (filter test (drop (n + 1) demands)) ≡ vars ++ flat_map f (filter test (drop n demands))

@@ -15,7 +15,7 @@ use Rattle.demand_cycles.specs.declared.side.Side.{Side}
 use Rattle.demand_cycles.specs.Side.{IsSide, IsPartReached, reversed_edge, reversed, with_keys}
 use Rattle.demand_cycles.proofs.Reached.{leads-goal, goal-of, reached-more, reached-all, reached-short}
 
--- edges turned round
+-- reversed edges
 
 reversed-edge : (edges : List Edge) (v w : Var) → HasEdge edges v w → HasEdge (reversed edges) w v
 reversed-edge edges v w (e, h, from, to) = (reversed_edge e, map-contains reversed_edge edges e h, to, from)
@@ -25,7 +25,7 @@ edge-reversed edges v w (e, h, from, to) =
     let found = contains-map reversed_edge edges e h in
     (found.0, found.1, ap (λ (x : Edge). x.to) found.2 ∙ to, ap (λ (x : Edge). x.from) found.2 ∙ from)
 
--- what edges from a variable enter, edges to it leave where they are turned round
+-- the ends of edges from a variable are the starts of reversed edges to it
 pub targets-reversed : (edges : List Edge) (from : Var) (targets : List Var) → ((v : Var) → (Contains targets v) ↔ (HasEdge edges from v))
     → (v : Var) → (Contains targets v) ↔ (HasEdge (reversed edges) v from)
 targets-reversed edges from targets all v = (
@@ -60,7 +60,7 @@ leads-ahead edges from end h =
     leads-goal (reversed edges) (from ∷ []) end from (contains-head from [])
     (subst (λ v. Way (reversed edges) v from) (sym (one-of end on.0 on.1)) (way-reversed edges from on.0 on.2))
 
--- a search that found a variable, or is done, has it where it leads to a goal
+-- a search that found a variable, or is finished, has it iff it leads to a goal
 has-led : (edges : List Edge) (goals keys : List Var) (place : ℕ) (v : Var) → IsPartReached edges goals keys place → nat_lt place (length keys) && not (has keys v) ≡ false
     → leads_to_any edges goals v ≡ true → has keys v ≡ true
 has-led edges goals keys place v part told h =
@@ -72,7 +72,7 @@ has-led edges goals keys place v part told h =
       ]
     ] refl told
 
--- where one of two searches is done, or has found where the other began, that tells whether edges lead from one to the other
+-- where two searches aren't apart, whether they have met decides whether edges lead from one to the other
 pub met-leads : (edges : List Edge) (from end : Var) (ahead back : List Var) (i j : ℕ) → IsPartReached (reversed edges) (from ∷ []) ahead i → IsPartReached edges (end ∷ []) back j
     → (nat_lt i (length ahead) && not (has ahead end)) && (nat_lt j (length back) && not (has back from)) ≡ false
     → has ahead end || has back from ≡ leads_to_any edges (end ∷ []) from
@@ -87,7 +87,7 @@ met-leads edges from end ahead back i j a b told =
       | inr k ↦ or_right (has ahead end) (has back from) (has-led edges (end ∷ []) back j from b k led)
     ])
 
--- the first of two searches that are apart may go on, and no search goes on from more than there are edges
+-- the first of two searches apart isn't finished, and no search follows more variables than there are edges
 pub apart-more : (i j : ℕ) (ahead back : List Var) (from end : Var) → (nat_lt i (length ahead) && not (has ahead end)) && (nat_lt j (length back) && not (has back from)) ≡ true → i < length ahead
 apart-more i j ahead back from end h =
     let first = (and_parts (nat_lt i (length ahead) && not (has ahead end)) (nat_lt j (length back) && not (has back from)) h).0 in
@@ -96,7 +96,7 @@ apart-more i j ahead back from end h =
 pub ahead-short : (edges : List Edge) (goal : Var) (keys : List Var) (place : ℕ) → IsPartReached (reversed edges) (goal ∷ []) keys place → length keys ≤ 1 + length edges
 ahead-short edges goal keys place part = omega (arith, reached-short (reversed edges) (goal ∷ []) keys place part, length-map edges reversed_edge)
 
--- a search that went on from its next variable is one
+-- a search that followed its next variable is a search
 pub gone-on : (edges : List Edge) (old new : Side) (next : Var) (found : List Var) → IsSide edges old → slice_get old.found.keys old.place ≡ Some next → new.end ≡ old.end
     → new.found.keys ≡ with_keys old.found.keys found → new.place ≡ old.place + 1 → ((v : Var) → (Contains found v) ↔ (HasEdge edges v next)) → IsSide edges new
 gone-on edges old new next found part is e f g all =

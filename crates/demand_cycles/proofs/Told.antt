@@ -1,4 +1,4 @@
--- Rings on which the owners of new demands on cycles are tell which demands lie on a cycle.
+-- The rings of the owners of new demands on cycles decide which demands lie on a cycle.
 use Rattle.std.proofs.Common.{◌≡◌, ℕ, ◌+◌, ◌<◌, Bool, true, List, [], ◌∷◌, ◌++◌, Option, Some, None, length, take, drop, get_or, refl, sym, ap, ◌∙◌, subst, inl, inr}
 use Rattle.std.specs.List.{Contains}
 use Rattle.std.specs.Prelude.{option_to_list}
@@ -19,7 +19,7 @@ use Rattle.demand_cycles.proofs.Reached.{leads-goal, goal-of}
 use Rattle.demand_cycles.proofs.Sides.{reversed-way, way-reversed, one-of}
 use Rattle.demand_cycles.proofs.Rings.{hit-of, lies-led}
 
--- ways to the variable of a ring and from it
+-- walks to the variable of a ring and from it
 
 back-way : (edges : List Edge) (a v : Var) (ring : Ring) → IsRingOf edges a ring → has ring.back.keys v ≡ true → Way edges v a
 back-way edges a v ring is h =
@@ -37,7 +37,7 @@ ahead-way edges a v ring is h =
 way-ahead : (edges : List Edge) (a v : Var) (ring : Ring) → IsRingOf edges a ring → Way edges a v → has ring.ahead.keys v ≡ true
 way-ahead edges a v ring is way = is.ahead v ∙ leads-goal (reversed edges) (a ∷ []) v a (contains-head a []) (way-reversed edges a v way)
 
--- a ring closes an edge where the variable leads to its start, and its end to the variable
+-- a ring closes an edge iff its variable leads to the edge's start, and the edge's end to it
 closed-ways : (edges : List Edge) (a v w : Var) (ring : Ring) → IsRingOf edges a ring → closes ring v w ≡ true → Way edges a v × Way edges w a
 closed-ways edges a v w ring is h =
     let both = and_parts (has ring.ahead.keys v) (has ring.back.keys w) h in
@@ -46,7 +46,7 @@ closed-ways edges a v w ring is h =
 ways-closed : (edges : List Edge) (a v w : Var) (ring : Ring) → IsRingOf edges a ring → Way edges a v → Way edges w a → closes ring v w ≡ true
 ways-closed edges a v w ring is on back = and_from (has ring.ahead.keys v) (has ring.back.keys w) (way-ahead edges a v ring is on) (way-back edges a w ring is back)
 
--- a way from the end of an edge to its start, by a ring
+-- a ring that closes an edge gives a walk from the edge's end to its start
 any-way : (edges : List Edge) (vars : List Var) (rings : List Ring) (v w : Var) → AreRings edges vars rings → any_closes rings v w ≡ true → Way edges w v
 any-way edges vars rings v w are h =
     let found = any-at (λ (ring : Ring). closes ring v w) rings h in
@@ -54,7 +54,7 @@ any-way edges vars rings v w are h =
     let ways = closed-ways edges of.0 v w found.0 of.1 found.2 in
     way-join edges w of.0 v ways.1 ways.0
 
--- where one of the variables lies on such a way, a ring closes the edge
+-- where one of the variables lies on such a walk, a ring closes the edge
 any-closed : (edges : List Edge) (vars : List Var) (rings : List Ring) (v w b : Var) → AreRings edges vars rings → Contains vars b → Way edges w b → Way edges b v → any_closes rings v w ≡ true
 any-closed edges vars rings v w b are among back on =
     let found = any-at (λ (ring : Ring). closes ring b b) rings (are.all b among) in
@@ -63,7 +63,7 @@ any-closed edges vars rings v w b are among back on =
     any-from (λ (ring : Ring). closes ring v w) rings found.0 found.1
     (ways-closed edges of.0 v w found.0 of.1 (way-join edges of.0 b v ways.0 on) (way-join edges w b of.0 back ways.1))
 
--- what the demands with an owner are told
+-- demands with an owner
 
 owner-is : (owner : Option Var) (u : Var) → Contains (option_to_list owner) u → owner ≡ Some u
 owner-is None u h = absurd (contains-none u h)
@@ -110,18 +110,18 @@ with-ring edges vars v rings ring are is = record {
       any-from (λ (one : Ring). closes one u u) (rings ++ ring ∷ []) found.0 (contains-left rings (ring ∷ []) found.0 found.1) found.2;
 }
 
--- one that is on a ring already
+-- a variable that lies on a cycle of a ring already
 ring-kept : (edges : List Edge) (vars : List Var) (i : ℕ) (d : Var) (rings : List Ring) → i < length vars → AreRings edges (take i vars) rings
     → any_closes rings (get_or vars i d) (get_or vars i d) ≡ true → AreRings edges (take (i + 1) vars) rings
 ring-kept edges vars i d rings within are h = subst (λ l. AreRings edges l rings) (sym (take_more vars i d within)) (one-more edges (take i vars) (get_or vars i d) rings are h)
 
--- the same where a test of the rings tells it
+-- the same by the test of the rings
 pub ring-told : (edges : List Edge) (vars : List Var) (i : ℕ) (d : Var) (rings slice : List Ring) (told : Bool) → told ≡ any_closes slice (get_or vars i d) (get_or vars i d) → slice ≡ rings
     → told ≡ true → i < length vars → AreRings edges (take i vars) rings → AreRings edges (take (i + 1) vars) rings
 ring-told edges vars i d rings slice told tells same on within are =
     ring-kept edges vars i d rings within are (ap (λ l. any_closes l (get_or vars i d) (get_or vars i d)) (sym same) ∙ sym tells ∙ on)
 
--- one for which there is a new ring
+-- a variable with a new ring
 pub ring-added : (edges : List Edge) (vars : List Var) (i : ℕ) (d : Var) (rings : List Ring) (ring : Ring) → i < length vars → AreRings edges (take i vars) rings
     → IsRingOf edges (get_or vars i d) ring → AreRings edges (take (i + 1) vars) (rings ++ ring ∷ [])
 ring-added edges vars i d rings ring within are of =

@@ -1,4 +1,4 @@
--- The cycles through one variable, by what it leads to and what leads to it.
+-- The cycles through one variable, by the variables that it leads to and those that lead to it.
 use Rattle.std.specs.Prelude.{◌≡◌, Bool, true, false, ◌&&◌, List, [], ◌∷◌, Option, Some, None}
 use Rattle.std.specs.List.{Contains, list_any}
 use Rattle.qualified_goals.specs.declared.variable.Var.{Var}
@@ -13,25 +13,25 @@ use Rattle.demand_cycles.specs.Side.{reversed}
 abbrev pub closes : Ring → Var → Var → Bool
 closes ring v w = has ring.ahead.keys v && has ring.back.keys w
 
--- the same of one of some rings
+-- the same for any of several rings
 abbrev pub any_closes : List Ring → Var → Var → Bool
 any_closes rings v w = list_any (λ ring. closes ring v w) rings
 
--- the same from the owner of a demand, which a root hasn't
+-- the same for the edge of a demand with this owner; a root has no edge
 abbrev pub closes_from : List Ring → Option Var → Var → Bool
 closes_from rings None target = false
 closes_from rings (Some owner) target = any_closes rings owner target
 
--- what the variable leads to, and what leads to it
+-- the ring has the variables that v leads to, and those that lead to v
 pub record IsRingOf (edges : List Edge) (v : Var) (ring : Ring) : Type 0 where
   pub ahead : AreAncestors (reversed edges) (v ∷ []) ring.ahead.keys
   pub back : AreAncestors edges (v ∷ []) ring.back.keys
 
--- each is a ring, and each of some variables is on one
+-- each is the ring of a variable, and each of vars lies on a cycle of one
 pub record AreRings (edges : List Edge) (vars : List Var) (rings : List Ring) : Type 0 where
   pub each : (ring : Ring) → Contains rings ring → (v : Var) × IsRingOf edges v ring
   pub all : (v : Var) → Contains vars v → any_closes rings v v ≡ true
 
--- the rings tell which demands lie on a cycle
+-- a demand lies on a cycle iff a ring closes its edge
 abbrev pub Tells : List Demand → List Ring → Type 0
 Tells demands rings = (d : Demand) → Contains demands d → closes_from rings (owner_of d) d.target ≡ lies_on_cycle (edges_of demands) d

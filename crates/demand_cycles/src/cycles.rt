@@ -1,4 +1,4 @@
-// The cycles among demands.
+// Cycles among demands.
 ghost use Rattle.std.specs.Prelude.{◌≡◌, ◌+◌, ◌<◌, ◌↔◌, ◌++◌, [], ◌∷◌, List, true, Some, IfSome, IfOk, OnOk};
 ghost use Rattle.std.specs.Prelude.{length, take, drop, slice_get, option_to_list, flat_map};
 ghost use Rattle.std.specs.List.{Contains};
@@ -17,11 +17,11 @@ use indexmap::IndexSet;
 use plan_types::{List, NoMemory};
 use std::alloc::Global;
 
-/// Demands in an order, with an edge from the owner of each to its target.
+/// Demands in order, with an edge from the owner of each to its target.
 pub trait Graph {
     ghost demands: { Self → List Demand };
 
-    /// How many demands there are.
+    /// The number of demands.
     fn count(&self) -> usize
         ensures { result ≡ length (demands self.now) };
 
@@ -29,22 +29,22 @@ pub trait Graph {
         requires { place < length (demands self.now) }
         ensures { slice_get (demands self.now) place ≡ Some result.now };
 
-    /// The variables that edges to this one leave.
+    /// The variables from which edges lead to this one.
     fn sources(&self, alloc: Global, to: Var) -> Result<List<Var>, NoMemory>
         ensures { IfOk result (λ found. (v : Var) →
             (Contains found v) ↔ (HasEdge (edges_of (demands self.now)) v to)) };
 
-    /// The variables that edges from this one enter.
+    /// The variables to which edges from this one lead.
     fn targets(&self, alloc: Global, from: Var) -> Result<List<Var>, NoMemory>
         ensures { IfOk result (λ found. (v : Var) →
             (Contains found v) ↔ (HasEdge (edges_of (demands self.now)) from v)) };
 
-    /// Whether a variable is chosen. Edges leave only those.
+    /// Whether a variable is chosen. Only chosen variables have edges to others.
     fn is_chosen(&self, v: Var) -> bool
         ensures { (w : Var) → HasEdge (edges_of (demands self.now)) v w → result ≡ true };
 }
 
-/// The set of the variables that the demands on cycles name, where there are any. The demands before a place have
+/// The set of the variables that the demands on cycles name, if there are any. The demands before `before` have
 /// no cycle.
 pub fn cycle_set_of<G: Graph>(
     alloc: Global,
@@ -81,7 +81,7 @@ fn new_owners<G: Graph>(alloc: Global, graph: &G, before: usize) -> Result<Vec<V
     Ok(owners)
 }
 
-// What the demands on cycles name. The rings tell which these are.
+// The variables that the demands on cycles name. The rings decide which demands these are.
 fn named_on_cycles<G: Graph>(alloc: Global, graph: &G, rings: &[Ring]) -> Result<Vec<Var>, NoMemory>
     requires { Tells (G.demands graph.now) rings.now }
     ensures { IfOk result (λ named. named.items ≡ flat_map named_by (circular (G.demands graph.now))) }
@@ -106,7 +106,7 @@ fn closes_from(rings: &[Ring], owner: Option<Var>, target: Var) -> bool
     }
 }
 
-// Rings on which all of some variables are. One that is on a ring already has no other cycles.
+// Rings for the variables. One that lies on a cycle of another ring needs no ring: it has the same cycles.
 fn rings_of<G: Graph>(alloc: Global, graph: &G, vars: &[Var]) -> Result<Vec<Ring>, NoMemory>
     ensures { IfOk result (λ rings. AreRings (edges_of (G.demands graph.now)) vars.now rings.items) }
 {
@@ -127,7 +127,7 @@ fn ring_of<G: Graph>(alloc: Global, graph: &G, v: Var) -> Result<Ring, NoMemory>
     Ok(Ring { ahead, back })
 }
 
-/// Puts the owner of a demand behind other variables, where it has one.
+/// Appends the variable of the demand's owner, if it has one.
 pub fn push_owner(owners: &mut Vec<Var>, demand: &Demand) -> Result<(), NoMemory>
     ensures { OnOk result (owners.new.items ≡ owners.old.items ++ option_to_list (owner_of demand.now)) }
 {
@@ -146,7 +146,7 @@ fn owner_of(demand: &Demand) -> Option<Var>
     }
 }
 
-// Whether the edge of a demand lies on a cycle. What the search against the edges found serves again for the same owner.
+// Whether the edge of a demand lies on a cycle. The search against the edges is kept for the next demand of its owner.
 fn is_on_cycle<G: Graph>(
     alloc: Global,
     graph: &G,
@@ -180,8 +180,8 @@ fn side_of(alloc: Global, last: Option<Side>, end: Var) -> Result<Side, NoMemory
     }
 }
 
-// Whether edges lead from a variable to the end of a side, which grows until that is known. The search along the edges
-// goes first: much may lead to the owner of a demand whose target needs little.
+// Whether edges lead from a variable to the end of a side. The side grows until this is known. The search along
+// edges goes first: many variables may lead to an owner whose target leads to few.
 fn is_led_to<G: Graph>(
     alloc: Global,
     graph: &G,
@@ -205,7 +205,7 @@ fn is_led_to<G: Graph>(
     Ok(have_met(&ahead, back))
 }
 
-// The variables that lead to one of some goals: the goals, and again and again what edges to those found leave.
+// The goals and all variables that lead to them.
 fn ancestors<G: Graph>(alloc: Global, graph: &G, goals: &[Var]) -> Result<IndexSet<Var>, NoMemory>
     ensures { IfOk result (λ found. AreAncestors (edges_of (G.demands graph.now)) goals.now found.keys) }
 {
@@ -220,7 +220,7 @@ fn ancestors<G: Graph>(alloc: Global, graph: &G, goals: &[Var]) -> Result<IndexS
     Ok(found)
 }
 
-// The variables that one of some leads to: these, and again and again what edges from those found enter.
+// The variables begun with, and all variables to which they lead.
 fn descendants<G: Graph>(alloc: Global, graph: &G, begun: &[Var]) -> Result<IndexSet<Var>, NoMemory>
     ensures { IfOk result (λ found. AreAncestors (reversed (edges_of (G.demands graph.now))) begun.now found.keys) }
 {

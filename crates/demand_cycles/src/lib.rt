@@ -1,6 +1,6 @@
-//! The cycles among demands: the set of the variables that the demands on cycles name. The search starts at the demands
-//! that are new, and follows the edges from owners to targets, and back, in turn. Where a new demand lies on a cycle, what
-//! the owners lead to, and what leads to them, tells of each demand whether it lies on one.
+//! Cycles among demands: the set of the variables that the demands on cycles name. The search starts at new demands, and
+//! alternates between steps along edges and against them. Where a new demand lies on a cycle, a ring has what its owner
+//! leads to and what leads to its owner. The rings decide which demands lie on cycles.
 #![tactic(auto)]
 
 mod cycles;

@@ -6,7 +6,7 @@ use crate::side::is_around;
 use choice_problem::Var;
 use indexmap::IndexSet;
 
-/// What a variable leads to, and what leads to it. An edge lies on a cycle through the variable where the variable leads
+/// What a variable leads to, and what leads to it. An edge lies on a cycle through the variable iff the variable leads
 /// to the start of the edge, and the end of the edge to the variable.
 pub(crate) struct Ring {
     pub(crate) ahead: IndexSet<Var>,
@@ -31,7 +31,7 @@ impl Ring {
     }
 }
 
-/// Whether an edge lies on a cycle through the variable of one of some rings.
+/// Whether an edge lies on a cycle of one of the rings.
 pub(crate) fn any_closes(rings: &[Ring], from: Var, to: Var) -> bool
     ensures { result ≡ any_closes rings.now from to }
 {

@@ -9,7 +9,7 @@ use indexmap::IndexSet;
 use plan_types::NoMemory;
 use std::alloc::Global;
 
-/// The variables that a search from one of them found. From those before a place it went on already.
+/// A search from `end`: the variables found so far. The edges at those before `place` are followed already.
 pub(crate) struct Side {
     pub(crate) end: Var,
     pub(crate) found: IndexSet<Var>,
@@ -47,7 +47,7 @@ impl Side {
         is_around(&self.found, v)
     }
 
-    /// The variable from which the search goes on.
+    /// The next variable whose edges are followed.
     pub(crate) fn next(&self) -> Var
         requires { self.now.place < length self.now.found.keys }
         ensures { slice_get self.now.found.keys self.now.place ≡ Some result }
@@ -55,7 +55,7 @@ impl Side {
         self.found[self.place]
     }
 
-    /// Adds what the edges at the next variable lead to.
+    /// Adds the variables that the next variable's edges lead to.
     pub(crate) fn add(&mut self, vars: &[Var]) -> Result<(), NoMemory>
         requires { self.old.place < length self.old.found.keys }
         ensures end { OnOk result (self.new.end ≡ self.old.end) }
@@ -69,21 +69,21 @@ impl Side {
     }
 }
 
-// Whether a variable isn't found, and still may be.
+// Whether a variable isn't found yet, but may still be.
 fn is_seeking(side: &Side, v: Var) -> bool
     ensures { result ≡ is_seeking side.now v }
 {
     side.place < side.found.len() && !side.holds(v)
 }
 
-/// Whether each of two searches may still find where the other began.
+/// Whether both searches may still find the other's end.
 pub(crate) fn are_apart(ahead: &Side, back: &Side) -> bool
     ensures { result ≡ are_apart ahead.now back.now }
 {
     is_seeking(ahead, back.end) && is_seeking(back, ahead.end)
 }
 
-/// Whether one of two searches found where the other began.
+/// Whether either search has found the other's end.
 pub(crate) fn have_met(ahead: &Side, back: &Side) -> bool
     ensures { result ≡ has ahead.now.found.keys back.now.end || has back.now.found.keys ahead.now.end }
 {

@@ -1,4 +1,4 @@
--- the keys lead to goals, and what edges to the keys before the place leave are keys
+-- the keys lead to goals, and the starts of edges to the keys before the place are keys
 use Rattle.std.proofs.Common.{◌+◌, ◌-◌, length}
 use Rattle.choice_problem.specs.Conflict.{edges_of}
 use Rattle.demand_cycles.specs.Side.{IsPartReached}

@@ -1,4 +1,4 @@
--- the begun ones lead to the keys, and what edges from the keys before the place enter are keys
+-- the variables begun with lead to the keys, and the ends of edges from the keys before the place are keys
 use Rattle.std.proofs.Common.{◌+◌, ◌-◌, length}
 use Rattle.choice_problem.specs.Conflict.{edges_of}
 use Rattle.demand_cycles.specs.Side.{IsPartReached, reversed}

@@ -1,4 +1,4 @@
--- both sides are searches, one from where it began, and the other to its end
+-- both sides are searches: one from its start, and the other to its end
 use Rattle.std.proofs.Common.{◌≡◌, ◌+◌, ◌-◌, length}
 use Rattle.choice_problem.specs.Conflict.{edges_of}
 use Rattle.demand_cycles.specs.Side.{IsSide, reversed}
