@@ -1,4 +1,4 @@
--- What opens and what doesn't as active demands come and go.
+-- The open variables as active demands are added and removed.
 use Rattle.std.proofs.Common.{◌≡◌, ℕ, Bool, true, false, not, ◌&&◌, ◌||◌, List, [], ◌∷◌, ◌++◌, Option, Some, None, is_some, is_none, refl, sym, ap, ◌∙◌}
 use Rattle.std.proofs.lemmas.List.{map-append}
 use Rattle.qualified_goals.specs.declared.variable.Var.{Var}
@@ -24,7 +24,7 @@ other : (a n : Bool) → (a || (false || false)) && n ≡ a && n
 other true n = refl
 other false n = refl
 
--- one active demand less whose target has a value
+-- one active demand removed whose target has a value
 pub less-valued : (front : List Mention) (m : Mention) (trail : List Choice) (vars : List Var) → AreOpen (front ++ m ∷ []) trail vars
     → is_some (value_in trail m.var) ≡ true → AreOpen front trail vars
 less-valued front m trail vars h valued v =
@@ -37,7 +37,7 @@ less-valued front m trail vars h valued v =
       | false ↦ λ e. other (has (vars_at front) v) (is_none (value_in trail v))
     ] refl
 
--- whose target is asked for still
+-- one removed whose target another active demand has
 pub less-again : (front : List Mention) (m : Mention) (trail : List Choice) (vars : List Var) → AreOpen (front ++ m ∷ []) trail vars
     → has (vars_at front) m.var ≡ true → AreOpen front trail vars
 less-again front m trail vars h again v =
@@ -49,7 +49,7 @@ less-again front m trail vars h again v =
       | false ↦ λ e. other (has (vars_at front) v) (is_none (value_in trail v))
     ] refl
 
--- the last that asked for its target
+-- one removed that was the last on its target
 pub less-open : (front : List Mention) (m : Mention) (trail : List Choice) (vars less : List Var) → AreOpen (front ++ m ∷ []) trail vars
     → has (vars_at front) m.var ≡ false → ((v : Var) → has less v ≡ (not (same_var m.var v) && has vars v)) → AreOpen front trail less
 less-open front m trail vars less h once less_is v =
@@ -62,7 +62,7 @@ less-open front m trail vars less h once less_is v =
       | false ↦ λ e. other (has (vars_at front) v) (is_none (value_in trail v))
     ] refl
 
--- one active demand more whose target has a value
+-- one active demand added whose target has a value
 pub more-valued : (front after : List Mention) (m : Mention) (trail : List Choice) (vars : List Var) → AreOpen front trail vars
     → after ≡ front ++ m ∷ [] → is_some (value_in trail m.var) ≡ true → AreOpen after trail vars
 more-valued front after m trail vars h is valued v =
@@ -76,7 +76,7 @@ more-valued front after m trail vars h is valued v =
     ] refl
     ∙ sym (ap (λ b. b && is_none (value_in trail v)) (ap (λ ms. has (vars_at ms) v) is ∙ vars-push front m v))
 
--- whose target is asked for already
+-- one added whose target another active demand has
 pub more-again : (front after : List Mention) (m : Mention) (trail : List Choice) (vars : List Var) → AreOpen front trail vars
     → after ≡ front ++ m ∷ [] → has (vars_at front) m.var ≡ true → AreOpen after trail vars
 more-again front after m trail vars h is again v =
@@ -89,7 +89,7 @@ more-again front after m trail vars h is again v =
     ] refl
     ∙ sym (ap (λ b. b && is_none (value_in trail v)) (ap (λ ms. has (vars_at ms) v) is ∙ vars-push front m v))
 
--- whose target has none
+-- one added whose target has no value, and no active demand before
 pub more-open : (front after : List Mention) (m : Mention) (trail : List Choice) (vars more : List Var) → AreOpen front trail vars
     → after ≡ front ++ m ∷ [] → is_some (value_in trail m.var) ≡ false → ((v : Var) → has more v ≡ (same_var m.var v || has vars v)) → AreOpen after trail more
 more-open front after m trail vars more h is free more_is v =
@@ -103,13 +103,13 @@ more-open front after m trail vars more h is free more_is v =
     ] refl
     ∙ sym (ap (λ b. b && is_none (value_in trail v)) (ap (λ ms. has (vars_at ms) v) is ∙ vars-push front m v))
 
--- the target of the last that asks, which has no value
+-- the target of the last demand on it, without a value
 pub last-open : (front : List Mention) (m : Mention) (trail : List Choice) (vars : List Var) → AreOpen (front ++ m ∷ []) trail vars
     → is_some (value_in trail m.var) ≡ false → has vars m.var ≡ true
 last-open front m trail vars h free =
     h m.var ∙ ap (λ b. b && is_none (value_in trail m.var)) (vars-push front m m.var ∙ ap (λ b. has (vars_at front) m.var || (b || false)) (same_var-refl m.var) ∙ or-true (has (vars_at front) m.var))
     ∙ some-none (value_in trail m.var) false free
 
--- what has no value and isn't asked for isn't open
+-- a variable that no active demand has as target isn't open
 pub not-open : (front : List Mention) (trail : List Choice) (vars : List Var) (v : Var) → AreOpen front trail vars → has (vars_at front) v ≡ false → has vars v ≡ false
 not-open front trail vars v h once = h v ∙ ap (λ b. b && is_none (value_in trail v)) once

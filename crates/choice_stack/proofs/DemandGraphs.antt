@@ -1,4 +1,4 @@
--- Shared: the edges of the active demands, by their targets and by what they wait for.
+-- Shared: the edges of the active demands, by their targets and by their conditions.
 use Rattle.std.proofs.Common.{◌≡◌, ◌↔◌, ℕ, zero, suc, ◌<◌, arith, length, get_or, true, false, cond, ◌&&◌, ◌||◌, List, [], ◌∷◌, Some, map, filter, refl, sym, ap, ◌∙◌, subst, inl, inr}
 use Rattle.std.specs.List.{Contains, list_any, slice_get}
 use Rattle.std.specs.Option.{option_to_list}
@@ -36,7 +36,7 @@ demands-on listed v (m ∷ ms) h =
     ]
     ∙ ap (λ w. cond (same_var w v) (d ∷ filter (asks_for v) (demands_at listed (places_of ms))) (filter (asks_for v) (demands_at listed (places_of ms)))) (h.target [] m ms refl)
 
--- an edge of a demand leaves its owner for its target
+-- an edge of a demand leads from its owner to its target
 edge-of-owner : (when : List Choice) (d : Demand) (v : Var) → d.when ≡ when → Contains (option_to_list (owner_of d)) v → (let e : Edge = record { from = v; to = d.target } in Contains (edges_by d) e)
 edge-of-owner [] d v e h = absurd (contains-none v (subst (λ w. Contains (option_to_list (first_of_condition w)) v) e h))
 edge-of-owner (owner ∷ others) d v e h =
@@ -61,7 +61,7 @@ owner-of-edge (owner ∷ others) d e is h =
     elim (contains-cases mine [] e (subst (λ w. Contains (edges_from w d.target) e) is h)) [ inl k ↦ k | inr k ↦ absurd (contains-none e k) ] in
     record { owner = owner; others = others; condition = is; from = ap (λ (x : Edge). x.from) one; to = ap (λ (x : Edge). x.to) one }
 
--- the owner's variable stands in the condition
+-- the owner's variable is in the condition
 naming-owner : (d : Demand) (e : Edge) (v : Var) → IsOwner d e → e.from ≡ v → names v d ≡ true
 naming-owner d e v owns leaves =
     ap (are_naming v) owns.condition ∙ ap (λ b. b || are_naming v owns.others) (ap (λ u. same_var u v) (owns.from ∙ leaves) ∙ same_var-refl v)
@@ -85,7 +85,7 @@ edge-sources listed ms to v h (e, within, from, target) =
     (subst (λ ds. Contains ds found.0) (sym (demands-on listed to ms h)) (filter-contains (asks_for to) all found.0 found.1 asked))
     (subst (λ o. Contains (option_to_list o) v) (sym owner) (contains-head v []))
 
--- what listed demands wait for
+-- the variables that listed demands wait for
 
 naming-has : (n : ℕ) (v : Var) (when : List Choice) → has (vars_at (watchers_by n when)) v ≡ are_naming v when
 naming-has n v [] = refl
@@ -107,14 +107,14 @@ waits-has n v (d ∷ demands) =
     ∙ has-append (vars_at (watchers_by n d.when)) (vars_at (watchers_from (suc n) demands)) v
     ∙ ap (λ b. b || has (vars_at (watchers_from (suc n) demands)) v) (naming-has n v d.when) ∙ ap (λ b. names v d || b) (waits-has (suc n) v demands)
 
--- an edge leaves a variable that a demand names
+-- an edge starts at a variable that a demand's condition names
 pub edge-names : (demands listed : List Demand) (v w : Var) → ((d : Demand) → Contains demands d → Contains listed d) → HasEdge (edges_of demands) v w → list_any (names v) listed ≡ true
 edge-names demands listed v w within (e, there, from, target) =
     let found = contains-flat_map edges_by demands e there in
     let owns = owner-of-edge found.0.when found.0 e refl found.2 in
     any-from (names v) listed found.0 (within found.0 found.1) (naming-owner found.0 e v owns from)
 
--- where a variable owns all demands, edges leave it alone
+-- where a variable owns all demands, all edges start at it
 pub edge-owned : (demands : List Demand) (u v w : Var) → ((d : Demand) → Contains demands d → is_owned_by u d ≡ true) → HasEdge (edges_of demands) v w → same_var u v ≡ true
 edge-owned demands u v w owned (e, there, from, target) =
     let found = contains-flat_map edges_by demands e there in
@@ -126,7 +126,7 @@ active-at listed [] k m h e = absurd (omega (arith, h))
 active-at listed (x ∷ ms) zero m h e = ap (λ (y : Mention). Some (demand_at listed y.place)) (sym e)
 active-at listed (x ∷ ms) (suc k) m h e = active-at listed ms k m (omega (arith, h)) e
 
--- what edges from a variable enter
+-- the ends of edges from a variable
 
 target-edge : (when : List Choice) (target from v : Var) → Contains (cond (is_first from when) (target ∷ []) []) v → (let e : Edge = record { from = from; to = v } in Contains (edges_from when target) e)
 target-edge [] target from v h = absurd (contains-none v h)

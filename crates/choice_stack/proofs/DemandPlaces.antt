@@ -73,6 +73,6 @@ waits-demands v test before (d ∷ demands) all e =
       | false ↦ more
     ]
 
--- the demand at one of some places
+-- the demand at one of the places
 pub demands-get : (listed : List Demand) (places : List ℕ) (k d : ℕ) → k < length places → slice_get (demands_at listed places) k ≡ Some (demand_at listed (get_or places k d))
 demands-get listed places k d h = slice_get-map (demand_at listed) places k ∙ ap (option_map (demand_at listed)) (slice_get-get_or places k d h)

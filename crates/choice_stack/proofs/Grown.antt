@@ -1,4 +1,4 @@
--- What a choice makes of a stack: its demands listed, and those active that turn Yes.
+-- A stack after a choice: its demands are listed, and those that become Yes are active.
 use Rattle.std.proofs.Common.{◌≡◌, ℕ, zero, suc, ◌+◌, ◌-◌, ◌<◌, arith, length, map, List, [], ◌∷◌, ◌++◌, refl, sym, ap, ◌∙◌, subst, length-append, append_assoc}
 use Rattle.std.proofs.lemmas.List.{map-append}
 use Rattle.std.proofs.lemmas.List.Elements.{filter-append}
@@ -41,7 +41,7 @@ targets-append listed [] ys h k = k
 targets-append listed (x ∷ xs) ys h k =
     targets-on listed x (xs ++ ys) (h.within [] x xs refl) (h.target [] x xs refl) (targets-append listed xs ys (targets-tail listed x xs h) k)
 
--- some demands stand among all, behind so many others
+-- some demands are a part of all, behind n others
 abbrev StandBehind : ℕ → List Demand → List Demand → Type 0
 StandBehind first demands all = (n : ℕ) → n < length demands → (first + n < length all) × (demand_at all (first + n) ≡ demand_at demands n)
 
@@ -126,7 +126,7 @@ module _ (listed more : List Demand) (active : List Mention) (woken fresh : List
       parts : (all : List Demand) (xs ys : List Mention) → demands_at all (places_of (xs ++ ys)) ≡ demands_at all (places_of xs) ++ demands_at all (places_of ys)
       parts all xs ys = ap (demands_at all) (map-append (λ (m : Mention). m.place) xs ys) ∙ map-append (demand_at all) (places_of xs) (places_of ys)
 
--- what a stack is seen as once a choice is made
+-- the view of a stack after a choice
 
 module _ (old : View) (a : Addition) (h : IsAddition old a) where
   pub addition-turned : demands_at old.listed a.woken.items ++ demands_at a.demands a.fresh.items ≡ turned (old.trail ++ a.choice ∷ []) a.choice.var (old.listed ++ a.demands)

@@ -1,4 +1,4 @@
--- Shared: open variables by their entries: what is registered, linked, taken out and put back, and a walk over what is linked.
+-- Shared: open variables by their entries: registered, linked, unlinked and relinked, and a walk over linked ones.
 use Rattle.std.proofs.Common.{◌≡◌, ℕ, zero, suc, ◌+◌, ◌<◌, arith, length, MatchOption, IsSome, IfSome, true, false, not, cond, ◌&&◌, ◌||◌, List, [], ◌∷◌, ◌++◌, Option, Some, None, refl, sym, ap, ◌∙◌, subst}
 use Rattle.std.specs.List.{Contains, slice_get, find}
 use Rattle.std.specs.Option.{option_map}
@@ -21,12 +21,12 @@ use Rattle.goal_links.proofs.ChainWalks.{at-entry, entry-known, get-at}
 use Rattle.choice_stack.specs.Open.{AreInOrder, Keeps, StayKept, MayComeBack, any_var, is_other, is_behind}
 pub use Rattle.demand_agreement.proofs.Disagreements.{get-front}
 
--- what stands at a place of the second of two lists
+-- an item of the second of two lists
 pub get-right : {X : Type 0} (xs ys : List X) (n : ℕ) → slice_get (xs ++ ys) (length xs + n) ≡ slice_get ys n
 get-right [] ys n = let none : 0 + n ≡ n = omega arith in ap (slice_get ys) none
 get-right (x ∷ xs) ys n = let on : suc (length xs) + n ≡ suc (length xs + n) = omega arith in ap (slice_get (x ∷ xs ++ ys)) on ∙ get-right xs ys n
 
--- what keeps its place
+-- items that keep their places
 
 get-other : {X : Type 0} (xs : List X) (i n : ℕ) (y x : X) → (n ≡ i → ⊥) → slice_get xs n ≡ Some x → slice_get (set xs i y) n ≡ Some x
 get-other [] i n y x other h = absurd (cc h)
@@ -35,7 +35,7 @@ get-other (z ∷ xs) zero (suc n) y x other h = h
 get-other (z ∷ xs) (suc i) zero y x other h = h
 get-other (z ∷ xs) (suc i) (suc n) y x other h = get-other xs i n y x (λ e. other (ap suc e)) h
 
--- entries that stay
+-- entries that are unchanged
 
 pub row-order : (s t : Entries) → KeepRow s t → AreInOrder s → AreInOrder t
 row-order s t keep h = record {
@@ -70,7 +70,7 @@ module _ (s : Entries) (n : ℕ) (within : n < length s.vars) where
         ] refl (sym (linked-has u) ∙ k);
   }
 
-  -- taken out
+  -- unlinked
 
   pub taken-has : (u : Var) → has (unlinked s n).linked u ≡ (is_other (var_at s.vars n) u && has s.linked u)
   taken-has u = has-without (var_at s.vars n) s.linked u
@@ -99,7 +99,7 @@ module _ (s : Entries) (n : ℕ) (within : n < length s.vars) where
     ] (sym (taken-has u) ∙ k));
   }
 
--- put back
+-- relinked
 
 beside-left : (v : Var) (before : List Var) → is_rising before ≡ true → has before v ≡ true → AreBeside (beside (same_var v) before) (without v before)
 beside-left v before rising there =
@@ -121,14 +121,14 @@ may-come-back s n h back =
 pub back-within : (s : Entries) (n : ℕ) → MayComeBack s n → n < length s.vars
 back-within s n back = slice_get_within s.vars n back.var back.kept.owned
 
--- a walk over what is linked
+-- a walk over the linked entries
 
--- what a walk has before it
+-- the rest of a walk
 abbrev pub vars_from : Entries → Option ℕ → List Var
 vars_from s None = []
 vars_from s (Some n) = var_at s.vars n ∷ vars_behind s n
 
--- where a walk stands, if it does
+-- the linked entry that a walk is at, if it hasn't ended
 abbrev pub StandsAt : Entries → Option ℕ → Type 0
 StandsAt s None = Unit {0}
 StandsAt s (Some n) = (n < length s.vars) × (has s.linked (var_at s.vars n) ≡ true)
@@ -158,7 +158,7 @@ behind-contains v (x ∷ xs) y ys h =
       | false ↦ λ e. contains-tail x xs y (behind-contains v xs y ys e)
     ] h
 
--- what stands behind a variable is another one than those before
+-- in a rising list the first variable differs from those behind it
 not-first : (x : Var) (xs : List Var) (y : Var) → is_rising (x ∷ xs) ≡ true → Contains xs y → same_var y x ≡ false
 not-first x xs y rising c = same-back y x ∙ before-not-same x y (rising-below x xs y rising c)
 
@@ -187,13 +187,13 @@ from-next s n o rising e = next (vars_behind s n) refl o e
         let at : var_at s.vars m ≡ x = cc e in
         ap (λ v. v ∷ behind_first (same_var v) s.linked) at ∙ ap (λ l. x ∷ l) (behind-twice (var_at s.vars n) s.linked x xs rising is)
 
--- the first behind a variable, where one is given
+-- the first behind a variable, if one is given
 pub behind-is : (v : Option Var) (vars : List Var) → find (is_behind v) vars ≡ first_behind v vars
 behind-is None [] = refl
 behind-is None (w ∷ vars) = refl
 behind-is (Some v) vars = refl
 
--- what follows a variable is the first behind it
+-- the next variable is the first behind it
 pub next-behind : (v : Var) (vars : List Var) → is_rising vars ≡ true → has vars v ≡ true → first_of (behind_first (same_var v) vars) ≡ find (is_before v) vars
 next-behind v [] rising there = absurd (false≢true there)
 next-behind v (w ∷ vars) rising there =
@@ -214,7 +214,7 @@ next-behind v (w ∷ vars) rising there =
     next-first v [] rising = refl
     next-first v (w ∷ vars) rising = sym (ap (λ b. cond b (Some w) (find (is_before v) vars)) (rising-below v (w ∷ vars) w rising (contains-head w vars)))
 
--- the entry of what is linked is found
+-- the entry of a linked variable is found
 
 pub found-some : (s : Entries) (v : Var) → AreInOrder s → has s.linked v ≡ true → (o : Option ℕ) → MatchOption o (has s.vars v ≡ false) (λ n. slice_get s.vars n ≡ Some v) → IsSome o
 found-some s v h there None none = absurd (false≢true (sym none ∙ h.known v there))

@@ -1,4 +1,4 @@
--- What a stack is asked: the demands on a variable, the first that passes a test, and the least that is open.
+-- Queries: the demands on a variable, the first that passes a test, and the least open variable.
 use Rattle.std.proofs.Common.{◌≡◌, ℕ, zero, suc, ◌<◌, arith, length, get_or, Bool, true, false, not, cond, ◌&&◌, ◌||◌, List, [], ◌∷◌, Some, is_none, find, map, filter, refl, sym, ap, ◌∙◌, subst}
 use Rattle.std.specs.List.{slice_get}
 use Rattle.qualified_goals.specs.declared.variable.Var.{Var}
@@ -35,7 +35,7 @@ place-below n [] k d h within = absurd (omega (arith, within))
 place-below n (m ∷ ms) zero d h within = h.0
 place-below n (m ∷ ms) (suc k) d h within = place-below n ms k d h.1 (omega (arith, within))
 
--- the first that passes a test which only demands on a variable pass
+-- the first demand that passes a test, where only demands on a variable pass
 pub find-on : (test : Demand → Bool) (listed : List Demand) (v : Var) (ms : List Mention) → AreTargets listed ms → ((d : Demand) → same_var d.target v ≡ false → test d ≡ false)
     → find test (demands_at listed (places_of ms)) ≡ find test (demands_at listed (places_on v ms))
 find-on test listed v [] h only = refl
@@ -63,7 +63,7 @@ find-asks listed v (m ∷ ms) h =
 pub refuses-only : (c : Choice) (d : Demand) → same_var d.target c.var ≡ false → refuses c d ≡ false
 refuses-only c d h = ap (λ b. b && not (is_one_of (Some c.val) d.allowed)) h
 
--- the targets that are waited for
+-- the open targets
 
 pub waiting-has : (trail : List Choice) (listed : List Demand) (ms : List Mention) (v : Var) → AreTargets listed ms
     → has (map (λ d. d.target) (filter (is_waited_for trail) (demands_at listed (places_of ms)))) v ≡ has (vars_at ms) v && is_none (value_in trail v)
@@ -94,7 +94,7 @@ waiting-has trail listed (m ∷ ms) v h =
           ]
     ] refl
 
--- rising variables that are open are those that are waited for
+-- a rising list of the open variables is the list of open targets
 pub waiting-is : (trail : List Choice) (listed : List Demand) (ms : List Mention) (vars : List Var) → AreTargets listed ms → AreOpen ms trail vars → is_rising vars ≡ true
     → vars ≡ waiting trail (demands_at listed (places_of ms))
 waiting-is trail listed ms vars h opened rising =
@@ -105,7 +105,7 @@ pub places-below : (v : Var) (listed seen : List Demand) (ms : List Mention) (pl
 places-below v listed seen ms places h e is =
     subst (λ (ds : List Demand). AllBelow (length ds) places) (sym e) (subst (AllBelow (length listed)) (sym is) (on-below (length listed) v ms (targets-below listed ms h)))
 
--- the mentions of a variable stand where the demands on it do
+-- the mentions of a variable have the places of the demands on it
 pub mentions-places : (n : ℕ) (v : Var) (listed : List Demand) (ms : List Mention) → AreTargets listed ms → indices_from n v ms ≡ places_from n v (demands_at listed (places_of ms))
 mentions-places n v listed [] h = refl
 mentions-places n v listed (m ∷ ms) h =

@@ -1,4 +1,4 @@
--- Shared: stacks: choices with their marks, and what opens.
+-- Shared: stacks: choices with their marks, and the open variables.
 use Rattle.std.proofs.Common.{◌≡◌, ℕ, zero, suc, ◌+◌, ◌-◌, arith, length, get_or, take, drop, true, false, not, cond, ◌&&◌, ◌||◌, List, [], ◌∷◌, ◌++◌, Some, None, is_none, is_some, map, refl, sym, ap, ◌∙◌, subst, append_assoc, length-append}
 use Rattle.std.proofs.lemmas.List.{map-append, take-append-le, take-append-drop}
 use Rattle.std.proofs.Math.ListN.{get_or-append}
@@ -107,7 +107,7 @@ marks-hold {trail = trail} {marks = marks} {listed = listed} {active = active} {
     })
     (marks-targets levels)
 
--- what is chosen before is chosen after one choice more, and so is its variable
+-- one more choice leaves the chosen variables chosen, and its own variable is chosen
 
 pub chosen-on : (front trail : List Choice) (c : Choice) (v : Var) → trail ≡ front ++ c ∷ [] → value_in front c.var ≡ None → is_chosen_in front v ≡ true → is_chosen_in trail v ≡ true
 chosen-on front trail c v e free h =
@@ -119,7 +119,7 @@ chosen-last front trail c e free =
     ap (λ cs. is_some (value_in cs c.var)) e ∙ ap is_some (value-push front c c.var free)
     ∙ ap (λ b. is_some (cond b (Some c.val) (value_in front c.var))) (same_var-refl c.var)
 
--- what isn't chosen is another than each that is
+-- a variable that isn't chosen differs from each that is
 pub chosen-other : (trail : List Choice) (u v : Var) → is_chosen_in trail u ≡ false → is_chosen_in trail v ≡ true → is_other u v ≡ true
 chosen-other trail u v free h =
     elim (same_var u v) as (λ b. same_var u v ≡ b → not b ≡ true) [
@@ -127,7 +127,7 @@ chosen-other trail u v free h =
       | false ↦ λ e. refl
     ] refl
 
--- marks hold as long as what was chosen keeps its neighbours
+-- marks stay right while the entries of chosen variables keep their neighbours
 pub marks-keep : {trail : List Choice} {marks : List Mark} {listed : List Demand} {active : List Mention} {s : Entries} (t : Entries)
     → AreMarks trail marks listed active s → StayKept (is_chosen_in trail) s t → AreMarks trail marks listed active t
 marks-keep t (none targets) stay = none targets
@@ -150,7 +150,7 @@ marks-keep {trail = trail} t (on {front = front} {less = less} c m levels e f is
     })
     targets
 
--- what is open once a variable has a value
+-- the open variables after a variable has a value
 pub open-hold : (active : List Mention) (trail : List Choice) (vars less : List Var) (c : Choice) → AreOpen active trail vars → value_in trail c.var ≡ None
     → ((v : Var) → has less v ≡ (not (same_var c.var v) && has vars v)) → AreOpen active (trail ++ c ∷ []) less
 open-hold active trail vars less c h free less_is v =
@@ -195,7 +195,7 @@ parts-none trail marks listed active watchers s t m l a w v = record {
   opened = λ x. ap (λ vs. has vs x) v ∙ sym (ap (λ ms. has (vars_at ms) x && is_none (value_in trail x)) a);
 }
 
--- demands that are listed, and what they wait for
+-- demands that are listed, and the variables that they wait for
 
 pub waits-append : (n : ℕ) (xs ys : List Demand) → watchers_from n (xs ++ ys) ≡ watchers_from n xs ++ watchers_from (n + length xs) ys
 waits-append n [] ys = ap (λ k. watchers_from k ys) (omega arith)
@@ -215,7 +215,7 @@ demands-grow listed more (m ∷ ms) h =
     ap (λ d. d ∷ demands_at (listed ++ more) (places_of ms)) (get_or-append listed more no_demand m.place (h.within [] m ms refl))
     ∙ ap (λ ds. demand_at listed m.place ∷ ds) (demands-grow listed more ms (targets-tail listed m ms h))
 
--- a stack stays so where entries are registered
+-- registering entries keeps the invariant of a stack
 pub parts-keep : (trail : List Choice) (marks : List Mark) (listed : List Demand) (active watchers : List Mention) (s t : Entries)
     → AreParts trail marks listed active watchers s → t.linked ≡ s.linked → StayKept any_var s t → AreParts trail marks listed active watchers t
 parts-keep trail marks listed active watchers s t h same stay = record {
@@ -247,7 +247,7 @@ parts-grow trail marks listed after more active asked above watchers waits s t h
   opened = opened;
 }
 
--- the last choice less
+-- the last choice removed
 
 pub marks-undo : {trail : List Choice} {marks : List Mark} {listed : List Demand} {active : List Mention} {s : Entries} (front : List Choice) (c : Choice) (less : List Mark) (m : Mark)
     → AreMarks trail marks listed active s → trail ≡ front ++ c ∷ [] → marks ≡ less ++ m ∷ []
@@ -269,7 +269,7 @@ pub marks-some : {trail : List Choice} {marks : List Mark} {listed : List Demand
 marks-some front c (none targets) e = absurd (snoc-none front c [] e)
 marks-some front c (on {less = less} c' m levels e' f is targets) e = (less, m, f)
 
--- what is left open of what was open before a choice may come back
+-- after a choice is undone, its variable may be relinked
 pub comes-back : (front : List Choice) (c : Choice) (entry : ℕ) (asked : List Mention) (s t : Entries) → IsHeld front c.var entry asked s → value_in front c.var ≡ None
     → has (vars_at asked) c.var ≡ true → StayKept (is_chosen_in (front ++ c ∷ [])) s t → AreOpen asked (front ++ c ∷ []) t.linked → MayComeBack t entry
 comes-back front c entry asked s t held free there stay opened = record {
@@ -313,7 +313,7 @@ parts-undo trail front marks less listed fewer active asked watchers left s t u 
           (ap (λ cs. cond (same_var c.var v) None (value_in cs v)) e ∙ value-pop front c v level.1.new);
     }
 
--- what a stack is seen as
+-- the view of a stack
 
 abbrev seen : List Choice → List Demand → List Demand → List ℕ → List ℕ → View
 seen trail listed active listed_before active_before =

@@ -26,7 +26,7 @@ turned-seen v trail listed seen watchers places given found h e is was found_is 
     ∙ ap (λ ps. demands_at listed (filter (λ k. is_yes (value_in trail) (demand_at listed k)) ps)) (was ∙ e ∙ ap (places_on v) h)
     ∙ waits-demands v (is_yes (value_in trail)) [] listed listed refl
 
--- demands that turn Yes, one after another
+-- demands that become Yes, one after another
 
 pub turned-next : (trail : List Choice) (v : Var) (listed : List Demand) (found : List ℕ) (n : ℕ) → n < length listed → demands_at listed found ≡ turned trail v (take n listed)
     → demands_at listed (found ++ place_turned trail v listed n) ≡ turned trail v (take (n + 1) listed)

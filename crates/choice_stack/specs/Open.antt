@@ -1,4 +1,4 @@
--- Open variables, linked in goal order, and what the entries of those keep that were taken out.
+-- Open variables, linked in goal order, and the neighbours that unlinked entries keep.
 use Rattle.std.specs.Prelude.{◌≡◌, ℕ, Bool, true, not, ◌&&◌, List, Option, Some, None, IsTrue, is_some, slice_get}
 use Rattle.qualified_goals.specs.declared.variable.Var.{Var}
 use Rattle.qualified_goals.specs.Variable.{is_before, same_var}
@@ -8,7 +8,7 @@ use Rattle.choice_problem.specs.Trail.{value_in}
 use Rattle.goal_links.specs.Beside.{beside}
 use Rattle.goal_links.specs.Links.{Entries, var_at}
 
--- what is linked stands in goal order, and has entries
+-- linked variables are in goal order, and have entries
 pub record AreInOrder (s : Entries) : Type 0 where
   pub rising : IsTrue (is_rising s.linked)
   pub known : (v : Var) → has s.linked v ≡ true → has s.vars v ≡ true
@@ -18,11 +18,11 @@ pub record Keeps (s : Entries) (entry : ℕ) (v : Var) (sides : Option Var × Op
   pub owned : slice_get s.vars entry ≡ Some v
   pub held : slice_get s.kept entry ≡ Some (Some sides)
 
--- the entry of a variable that was taken out keeps its neighbours among those that were linked
+-- the entry of an unlinked variable keeps its neighbours among those that were linked
 abbrev pub KeepsNeighbours : Entries → Entries → ℕ → Type 0
 KeepsNeighbours old new entry = Keeps new entry (var_at old.vars entry) (beside (same_var (var_at old.vars entry)) old.linked)
 
--- the entries of variables that pass a test keep what they kept
+-- the entries of variables that pass a test keep the same neighbours
 abbrev pub StayKept : (Var → Bool) → Entries → Entries → Type 0
 StayKept test old new = (entry : ℕ) (v : Var) (sides : Option Var × Option Var) → test v ≡ true → Keeps old entry v sides → Keeps new entry v sides
 
@@ -38,7 +38,7 @@ is_other v w = not (same_var v w)
 abbrev pub is_chosen_in : List Choice → Var → Bool
 is_chosen_in trail v = is_some (value_in trail v)
 
--- an entry may be put back: it keeps its neighbours among what was open before it was taken out, and all else of that is open
+-- an entry may be relinked: it keeps its neighbours among those open before, and the others of these are open now
 pub record MayComeBack (s : Entries) (entry : ℕ) : Type 0 where
   pub var : Var
   pub before : List Var
@@ -47,7 +47,7 @@ pub record MayComeBack (s : Entries) (entry : ℕ) : Type 0 where
   pub kept : Keeps s entry var (beside (same_var var) before)
   pub others : (v : Var) → has s.linked v ≡ (is_other var v && has before v)
 
--- whether a variable is behind another, where one is given
+-- whether a variable is behind another one, or none is given
 abbrev pub is_behind : Option Var → Var → Bool
 is_behind None w = true
 is_behind (Some v) w = is_before v w

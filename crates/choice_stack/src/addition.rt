@@ -1,4 +1,4 @@
-// What a choice would add to a stack.
+// The additions of a choice to a stack.
 ghost use Rattle.std.specs.Prelude.{◌≡◌, None, IfOk};
 ghost use Rattle.choice_problem.specs.Trail.{value_in};
 ghost use Rattle.choice_stack.specs.Addition.{IsAddition};
@@ -9,7 +9,7 @@ use choice_problem::{Choice, Demand};
 use plan_types::{List, NoMemory};
 use std::alloc::Global;
 
-/// A choice of an open variable, with the demands that it owns, and the places of those demands that turn Yes with it.
+/// A choice of an open variable, with the demands that it owns, and the places of the demands that become Yes with it.
 #[derive(Drop)]
 pub struct Addition {
     pub choice: Choice,
@@ -21,7 +21,7 @@ pub struct Addition {
 }
 
 impl Addition {
-    /// What a choice would add to a stack, with the demands that it owns.
+    /// The addition of a choice to a stack, with the demands that it owns.
     pub fn of(
         alloc: Global,
         stack: &Stack,

@@ -1,4 +1,4 @@
-// What is asked of demands under the choices so far.
+// Queries on demands under the choices so far.
 ghost use Rattle.std.specs.Prelude.{◌≡◌, ◌<◌, ◌++◌, List, Some, None, IfSome, IfOk, OnOk};
 ghost use Rattle.std.specs.Prelude.{length, filter, find, slice_get, option_to_list};
 ghost use Rattle.std.specs.Option.{option_map};
@@ -32,7 +32,7 @@ fn is_broken(trail: &Values<'_>, d: &Demand) -> bool
     }
 }
 
-/// The first of the demands at some places that refuses a choice.
+/// The first of the demands at these places that refuses a choice.
 pub(crate) fn first_refusing(listed: &[Demand], places: &[usize], c: Choice) -> Option<usize>
     requires { AllBelow (length listed.now) places.now }
     ensures found { find (refuses c) (demands_at listed.now places.now) ≡ option_map (demand_at listed.now) result }
@@ -46,7 +46,7 @@ pub(crate) fn first_refusing(listed: &[Demand], places: &[usize], c: Choice) -> 
     None
 }
 
-/// The first of the demands at some places that the choices break.
+/// The first of the demands at these places that the choices break.
 pub(crate) fn first_broken(listed: &[Demand], places: &[usize], trail: &Values<'_>) -> Option<usize>
     requires { AllBelow (length listed.now) places.now }
     ensures found { find (is_broken trail.now) (demands_at listed.now places.now)
@@ -61,7 +61,7 @@ pub(crate) fn first_broken(listed: &[Demand], places: &[usize], trail: &Values<'
     None
 }
 
-/// The set of the variables that the demand at a place names, where there is one.
+/// The set of the variables that the demand at the place names, if a place is given.
 pub(crate) fn set_at(
     alloc: Global,
     listed: &[Demand],
@@ -95,7 +95,7 @@ fn vars_of(alloc: Global, when: &[Choice]) -> Result<Vec<Var>, NoMemory>
     Ok(vars)
 }
 
-/// The variables of the condition of the demand at the first of some places.
+/// The variables of the condition of the demand at the first place.
 pub(crate) fn reason_at(
     alloc: Global,
     listed: &[Demand],
@@ -192,7 +192,7 @@ fn is_turned(demand: &Demand, trail: &Values<'_>, v: Var) -> bool
     is_yes(trail, demand)
 }
 
-/// Whether one of some choices is of a variable.
+/// Whether any of the choices is of the variable.
 pub(crate) fn are_naming(choices: &[Choice], v: Var) -> bool
     ensures { result ≡ are_naming v choices.now }
 {
@@ -223,7 +223,7 @@ fn push_owner_at(owners: &mut Vec<Var>, listed: &[Demand], place: usize) -> Resu
     Ok(())
 }
 
-/// The owners of those of the demands at some places that are on a variable.
+/// The owners of the demands on a variable, among those at these places.
 pub(crate) fn owners_on(
     alloc: Global,
     listed: &[Demand],
@@ -256,7 +256,7 @@ fn push_owner_on(
     Ok(())
 }
 
-/// The targets of those of the demands at some places that a variable owns.
+/// The targets of the demands that a variable owns, among those at these places.
 pub(crate) fn targets_at(
     alloc: Global,
     listed: &[Demand],

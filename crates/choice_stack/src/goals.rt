@@ -1,4 +1,4 @@
-// The targets of active demands, of which those that are open are linked in goal order.
+// The targets of active demands. The open ones are linked in goal order.
 ghost use Rattle.std.specs.Prelude.{◌≡◌, ◌+◌, ◌<◌, ◌≤◌, ◌||◌, ◌&&◌, ◌++◌, [], ◌∷◌, List, ℕ, true, false, IsTrue};
 ghost use Rattle.std.specs.Prelude.{Some, IfSome, MatchOption, IfOk, OnErr, length, take, drop};
 ghost use Rattle.std.specs.Prelude.{slice_get, slice_index_or};
@@ -95,7 +95,7 @@ impl Goals {
         Ok(found)
     }
 
-    /// Makes a mention ready behind some that are, and tells how many are then. Only this takes memory.
+    /// Makes a mention ready behind the first `index` ready ones, and returns `index + 1`. Only this allocates.
     pub(crate) fn prepare(&mut self, index: usize, mention: Mention) -> Result<usize, NoMemory>
         requires { index ≤ length self.old.spare }
         ensures said { self.new.said ≡ self.old.said }
@@ -109,7 +109,7 @@ impl Goals {
         Ok(ready)
     }
 
-    /// Puts the first of those that are ready behind the others.
+    /// Appends the first ready mention.
     pub(crate) fn take_up(&mut self)
         requires { 0 < length self.old.spare }
         ensures said { self.new.said ≡ self.old.said ++ take 1 self.old.spare }
@@ -122,7 +122,7 @@ impl Goals {
         self.mentions.take_up();
     }
 
-    /// Takes the last mention off.
+    /// Removes the last mention.
     pub(crate) fn pop(&mut self) -> Option<Mention>
         ensures last { MatchOption result ((self.old.said ≡ []) × (self.new.said ≡ []))
             (λ last. self.old.said ≡ self.new.said ++ last ∷ []) }
@@ -135,7 +135,7 @@ impl Goals {
     }
 }
 
-// The open ones.
+// The open variables.
 impl Goals {
     pub(crate) fn var_of(&self, entry: u64) -> Var
         requires { entry < length self.now.row.vars }
@@ -165,7 +165,7 @@ impl Goals {
         self.mentions.entry_of(v).unwrap()
     }
 
-    /// Takes an open variable out. Its entry keeps its neighbours.
+    /// Unlinks an open variable. Its entry keeps its neighbours.
     pub(crate) fn take_out(&mut self, entry: u64)
         requires entry { entry < length self.old.row.vars }
         requires open { IsTrue (has self.old.row.linked (var_at self.old.row.vars entry)) }
@@ -180,7 +180,7 @@ impl Goals {
         self.mentions.unlink(entry);
     }
 
-    /// Puts a variable back where it was taken out.
+    /// Relinks a variable where it was unlinked.
     pub(crate) fn put_back(&mut self, entry: u64)
         requires { MayComeBack self.old.row entry }
         ensures said { self.new.said ≡ self.old.said }
@@ -191,7 +191,7 @@ impl Goals {
         self.mentions.relink(entry);
     }
 
-    /// The first variable behind one, or of all where none is given. It is looked for from the first on.
+    /// The first open variable behind `v`, or the first of all for `None`. The search is linear.
     pub(crate) fn after(&self, v: Option<Var>) -> Option<Var>
         ensures after { result ≡ first_behind v self.now.row.linked }
         ensures rising { IsTrue (is_rising self.now.row.linked) }
@@ -207,7 +207,7 @@ impl Goals {
         None
     }
 
-    /// The first variable behind one that is open.
+    /// The next open variable behind an open one.
     pub(crate) fn next(&self, v: Var) -> Option<Var>
         requires { IsTrue (has self.now.row.linked v) }
         ensures next { result ≡ first_behind (Some v) self.now.row.linked }

@@ -1,4 +1,4 @@
-// What a choice adds to the demands of a stack: first all memory for it is taken, then what is ready is put on.
+// Additions of a choice to a stack. All memory is allocated first, and then the ready mentions are appended.
 ghost use Rattle.std.specs.Prelude.{◌≡◌, ◌+◌, ◌<◌, ◌≤◌, ◌++◌, IfOk, List, length, take, drop, vec_capacity, vec_len};
 ghost use Rattle.goal_links.specs.Mentions.{mention_of};
 ghost use Rattle.choice_stack.specs.Open.{StayKept, any_var, is_chosen_in};
@@ -11,15 +11,15 @@ use choice_problem::{Choice, Demand, Trail};
 use goal_links::{Mention, Mentions};
 use plan_types::{List, NoMemory};
 
-/// How many mentions are ready: of variables that demands wait for, and of targets of demands that become active.
+/// The numbers of ready mentions: of variables that demands wait for, and of targets of demands that become active.
 #[derive(Clone, Copy, Debug, Drop)]
 pub(crate) struct Ready {
     pub(crate) waiting: usize,
     pub(crate) active: usize,
 }
 
-/// Takes the memory for more demands to be listed, and for those at some places to be active: of those that are listed,
-/// and of the new ones.
+/// Allocates the memory to list more demands, and to make the demands at these places active: `woken` are places of
+/// listed demands, and `fresh` are places of new ones.
 pub(crate) fn make_ready(
     listed: &mut Vec<Demand>,
     watchers: &mut Mentions,
@@ -47,8 +47,8 @@ pub(crate) fn make_ready(
     Ok(Ready { waiting, active })
 }
 
-// Makes ready the mentions of the variables for which demands will wait, which will be listed behind others. It tells
-// how many mentions these are.
+// Makes the mentions ready of the variables that the new demands will wait for. These will be listed from `first` on.
+// Returns the number of these mentions.
 fn ready_watchers(
     watchers: &mut Mentions,
     first: usize,
@@ -68,7 +68,7 @@ fn ready_watchers(
     Ok(count)
 }
 
-// Makes ready behind some mentions how a demand waits for each variable of its condition, once.
+// Makes ready, behind the first `before` mentions, one mention for each variable of a demand's condition.
 fn ready_watchers_of(
     watchers: &mut Mentions,
     before: usize,
@@ -92,7 +92,7 @@ fn ready_watchers_of(
     Ok(count)
 }
 
-// Makes the targets of the demands at some places ready behind some mentions. The demands are counted from a place on.
+// Makes ready, behind the first `before` mentions, the targets of the demands at these places, numbered from `first`.
 fn ready_goals(
     goals: &mut Goals,
     before: usize,
@@ -126,7 +126,7 @@ fn mention_at(first: usize, demands: &[Demand], place: usize) -> Result<Mention,
     Ok(Mention { var, place })
 }
 
-// A sum that is too large for a number is too large for memory.
+// A sum that overflows is out of memory.
 fn sum(m: usize, n: usize) -> Result<usize, NoMemory>
     ensures { IfOk result (λ sum. sum ≡ m + n) }
 {
@@ -136,7 +136,7 @@ fn sum(m: usize, n: usize) -> Result<usize, NoMemory>
     }
 }
 
-/// Lists more demands where there is room.
+/// Appends demands to the list, which has the capacity.
 pub(crate) fn list_all(listed: &mut Vec<Demand>, demands: List<Demand>)
     requires { vec_len listed.old + length demands ≤ vec_capacity listed.old }
     ensures { listed.new.items ≡ listed.old.items ++ demands }
@@ -146,7 +146,7 @@ pub(crate) fn list_all(listed: &mut Vec<Demand>, demands: List<Demand>)
     }
 }
 
-/// Makes the demands active whose mentions are ready, and opens each target that has no value and isn't open.
+/// Makes the demands with ready mentions active, and opens each target without a value that isn't open.
 pub(crate) fn activate(goals: &mut Goals, trail: &Trail, count: usize)
     requires ready { count ≤ length goals.old.spare }
     requires opened { AreOpen goals.old.said trail.now goals.old.row.linked }

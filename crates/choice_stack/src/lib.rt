@@ -1,6 +1,6 @@
-//! The choices so far as a stack, with what they ask for: demands wait for the variables of their conditions and become
-//! active, and open variables are linked in goal order. A choice is made without a look at its conflicts, and the last
-//! can be taken back.
+//! A stack of choices, with their listed and active demands. A listed demand waits for the variables of its condition,
+//! and becomes active when it is Yes. Open variables are linked in goal order. Choices are pushed without a check for
+//! conflicts, and the last one can be undone.
 #![tactic(auto)]
 
 mod addition;

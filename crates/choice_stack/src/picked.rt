@@ -1,4 +1,4 @@
-// Some of the demands of a list.
+// A selection of the demands of a list.
 ghost use Rattle.std.specs.Prelude.{◌≡◌, ◌-◌, ◌<◌, ◌++◌, Some, IfOk, OnOk, length, find, slice_get, slice_index_or};
 ghost use Rattle.choice_problem.specs.Conflict.{is_broken, set_of_first};
 ghost use Rattle.choice_stack.specs.Stack.{AllBelow, demands_at, rising_from, sources_on, targets_by};
@@ -37,14 +37,14 @@ impl<'a> Picked<'a> {
         Picked { listed, places }
     }
 
-    /// How many they are.
+    /// The number of these demands.
     pub fn len(&self) -> usize
         ensures { result ≡ length self.now }
     {
         self.places.len()
     }
 
-    /// The one with this number.
+    /// The demand with this index.
     pub fn at(&self, index: usize) -> &Demand
         requires { index < length self.now }
         ensures { slice_get self.now index ≡ Some result.now }
@@ -53,7 +53,7 @@ impl<'a> Picked<'a> {
         demand_in(self.listed, place)
     }
 
-    /// The set of the first that the choices break.
+    /// The set of the first demand that the choices break.
     pub fn broken(&self, alloc: Global, trail: &Values<'_>) -> Result<Option<ConflictSet>, NoMemory>
         ensures { IfOk result (λ set. set ≡ set_of_first (find (is_broken trail.now) self.now)) }
     {
@@ -62,7 +62,7 @@ impl<'a> Picked<'a> {
         Ok(set)
     }
 
-    /// The owners of those on a variable.
+    /// The owners of the demands on a variable.
     pub fn sources(&self, alloc: Global, to: Var) -> Result<List<Var>, NoMemory>
         ensures { IfOk result (λ found. found ≡ sources_on to self.now) }
     {
@@ -70,7 +70,7 @@ impl<'a> Picked<'a> {
         Ok(List::from_vec(owners))
     }
 
-    /// The targets of those that a variable owns.
+    /// The targets of the demands that a variable owns.
     pub fn targets(&self, alloc: Global, from: Var) -> Result<List<Var>, NoMemory>
         ensures { IfOk result (λ found. found ≡ targets_by from self.now) }
     {
@@ -86,7 +86,7 @@ fn place_at(places: &[usize], index: usize) -> usize
     places[index]
 }
 
-/// Adds the places from one on, up to another. Where memory is wanting, some of them are added.
+/// Appends the places from `from` to below `to`. When out of memory, some of them may be appended.
 pub fn push_range(places: &mut Vec<usize>, from: usize, to: usize) -> Result<(), NoMemory>
     ensures { OnOk result (places.new.items ≡ places.old.items ++ rising_from from (to - from)) }
 {

@@ -1,4 +1,4 @@
-// What a state keeps of its choices, and how it is taken back.
+// The stack of choices, and its undoing.
 ghost use Rattle.std.specs.Prelude.{◌≡◌, ◌≢◌, ◌<◌, ◌↔◌, ◌++◌, ◌&&◌, [], ◌∷◌, List, true, IsTrue, None, Some, is_none};
 ghost use Rattle.std.specs.Prelude.{MatchOption, IfOk, OnOk, OnErr, length, take, map, find, slice_get};
 ghost use Rattle.std.specs.List.{Contains, list_any};
@@ -29,7 +29,7 @@ use plan_types::{List, NoMemory};
 use std::alloc::Global;
 use std::marker::Model;
 
-/// How much there was of each before a choice, and the entry of its variable.
+/// The lengths of the lists before a choice, and the entry of its variable.
 #[derive(Clone, Copy, Debug, Drop)]
 pub(crate) struct Mark {
     pub(crate) listed: usize,
@@ -38,14 +38,14 @@ pub(crate) struct Mark {
     pub(crate) entry: u64,
 }
 
-/// Choices, with the demands that are listed and those of them that are active.
+/// Choices, with their listed demands. Some of these are active.
 pub struct Stack {
     trail: Trail,
     marks: Vec<Mark>,
     listed: Vec<Demand>,
     // The mentions of the variables of each listed demand's condition.
     watchers: Mentions,
-    // Those of the targets of active demands.
+    // The mentions of the targets of active demands.
     goals: Goals,
 }
 
@@ -128,7 +128,7 @@ impl Stack {
         Values::of(&self.trail)
     }
 
-    /// The values that the choices give, and one choice more.
+    /// The values that the choices and one more choice give.
     pub fn values_with(&self, c: Choice) -> Values<'_>
         requires { value_in self.now.trail c.var ≡ None }
         ensures { result ≡ self.now.trail ++ c ∷ [] }
@@ -143,7 +143,7 @@ impl Stack {
         self.listed.as_slice()
     }
 
-    /// The choices alone.
+    /// The choices as a list.
     pub fn into_trail(self) -> List<Choice>
         ensures trail { result ≡ self.trail }
         ensures different { AreOfDifferentVars result }
@@ -160,7 +160,7 @@ impl Stack {
 }
 
 impl Stack {
-    /// Takes the last choice back, with what came behind it.
+    /// Removes the last choice, with the demands that came with it.
     pub fn undo(&mut self)
         requires { self.old.trail ≢ [] }
         ensures { self.new ≡ undone self.old }
@@ -173,8 +173,8 @@ impl Stack {
         self.goals.put_back(mark.entry);
     }
 
-    /// Makes a choice of an open variable, lists its demands, and makes active what turns Yes. All memory is taken
-    /// before the first change.
+    /// Pushes a choice of an open variable, lists its demands, and makes those active that become Yes. All memory is
+    /// allocated before the first change.
     pub fn make(&mut self, alloc: Global, addition: Addition) -> Result<(), NoMemory>
         requires new { value_in self.old.trail addition.choice.var ≡ None }
         requires asked { IsTrue (has (map (λ d. d.target) self.old.active) addition.choice.var) }
@@ -229,7 +229,7 @@ impl Stack {
 }
 
 impl Stack {
-    /// The first variable behind one, or of all where none is given, that has no value and is the target of an active
+    /// The first variable behind `v`, or of all for `None`, that has no value and is the target of an active
     /// demand.
     pub fn open_after(&self, v: Option<Var>) -> Option<Var>
         ensures { result ≡ first_behind v (waiting self.now.trail self.now.active) }
@@ -271,7 +271,7 @@ impl Stack {
 
 // The graph of the active demands, with an edge from the owner of each to its target.
 impl Stack {
-    /// How many demands are active.
+    /// The number of active demands.
     pub fn count(&self) -> usize
         ensures { result ≡ length self.now.active }
     {
@@ -295,7 +295,7 @@ impl Stack {
         Ok(found)
     }
 
-    /// The variables that edges to this one leave.
+    /// The variables from which edges lead to this one.
     pub fn sources(&self, alloc: Global, to: Var) -> Result<List<Var>, NoMemory>
         ensures { IfOk result (λ found. (v : Var) → (Contains found v) ↔ (HasEdge (edges_of self.now.active) v to)) }
     {
@@ -304,7 +304,7 @@ impl Stack {
         Ok(List::from_vec(owners))
     }
 
-    /// The variables that edges from this one enter.
+    /// The variables to which edges from this one lead.
     pub fn targets(&self, alloc: Global, from: Var) -> Result<List<Var>, NoMemory>
         requires { IsSettled self.now }
         ensures { IfOk result (λ found. (v : Var) → (Contains found v) ↔ (HasEdge (edges_of self.now.active) from v)) }
@@ -315,7 +315,7 @@ impl Stack {
         Ok(List::from_vec(targets))
     }
 
-    /// Whether a listed demand names a variable. Edges leave only those.
+    /// Whether a listed demand's condition names a variable. Only such variables have edges to others.
     pub fn names(&self, v: Var) -> bool
         ensures { result ≡ list_any (names v) self.now.listed }
     {
@@ -329,7 +329,7 @@ fn is_open(goals: &Goals, trail: &Trail, v: Var) -> bool
     goals.names(v) && !trail.has(v)
 }
 
-// Cuts the mentions of active demands back, with what they opened.
+// Truncates the mentions of active demands, and closes the variables that only the removed ones opened.
 fn forget(goals: &mut Goals, trail: &Trail, len: usize)
     requires { AreOpen goals.old.said trail.now goals.old.row.linked }
     ensures active { goals.new.said ≡ take len goals.old.said }

@@ -15,7 +15,7 @@ use Rattle.choice_stack.proofs.StackLemmas.{chosen-other}
 use Rattle.choice_stack.proofs.OpenVariables.{get-right}
 use Rattle.choice_stack.proofs.growth.activate_next.Goals as goal
 
--- the first of those that are ready, and its entry
+-- the first ready mention, and its entry
 module _ (said spare : List Mention) (vars : List Var) (entry index : ℕ) (some : 0 < length spare) (last : index ≡ length said)
     (tells : (m : Mention) → slice_get (said ++ spare) index ≡ Some m → slice_get vars entry ≡ Some m.var) where
   parted : (m : Mention) × (rest : List Mention) × (spare ≡ m ∷ rest)

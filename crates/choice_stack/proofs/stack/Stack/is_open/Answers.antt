@@ -1,4 +1,4 @@
--- a target that waits for a value is one of an active demand's
+-- an open target is that of an active demand
 use Rattle.std.proofs.Common.{◌∙◌, sym, ap, map, filter}
 use Rattle.choice_problem.specs.declared.problem.Demand.{Demand}
 use Rattle.choice_problem.specs.Active.{is_waited_for, waiting}

@@ -1,4 +1,4 @@
--- each choice has its mark, and is of a variable that those before it leave open
+-- each choice has its mark, and is of a variable without a value before it
 use Rattle.choice_problem.proofs.TrailEnds.{new-different}
 use Rattle.choice_stack.proofs.StackLemmas.{marks-new}
 use Rattle.choice_stack.proofs.stack.Stack.trail.Goals as goal
