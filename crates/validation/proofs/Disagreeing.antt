@@ -1,4 +1,4 @@
--- Which of the demands that are active with a choice may disagree.
+-- The demands that may disagree after a choice.
 use Rattle.std.proofs.Common.{◌≡◌, ℕ, zero, suc, ◌+◌, ◌-◌, ◌<◌, ◌≤◌, arith, length, true, false, cond, List, [], ◌∷◌, ◌++◌, take, Some, None, refl, sym, ap, ◌∙◌, subst, inl, inr, ◌⊎◌}
 use Rattle.std.specs.List.{Contains, slice_get}
 use Rattle.std.proofs.lemmas.Bool.{false≢true, and_parts, cases_lt}
@@ -30,7 +30,7 @@ use Rattle.choice_stack.specs.Stack.{AllBelow, is_turned, made, names, rising_fr
 use Rattle.choice_stack.proofs.DemandPlaces.{below-more, below-append}
 use Rattle.validation.proofs.Weighed.{pending-active, pending-count}
 
--- what stands at a place of the first of two lists
+-- an item of the first of two lists
 get-left : {X : Type 0} (xs ys : List X) (i : ℕ) (x : X) → i < length xs → slice_get (xs ++ ys) i ≡ Some x → slice_get xs i ≡ Some x
 get-left [] ys i x less h = absurd (omega (arith, less))
 get-left (y ∷ xs) ys zero x less h = h
@@ -94,7 +94,7 @@ module _ (s : View) (a : Addition) (woken fresh : List Demand) (count : ℕ) (h 
         ]
       ]
 
-  -- those that may disagree
+  -- the demands that may disagree
   abbrev pub suspected : List ℕ
   suspected = places_on a.choice.var s.active ++ rising_from (length s.active) (count - length s.active)
 
@@ -106,7 +106,7 @@ module _ (s : View) (a : Addition) (woken fresh : List Demand) (count : ℕ) (h 
       (below-more (length s.active) (length all) (places_on a.choice.var s.active) (omega (arith, size, more)) (places-below 0 (length s.active) a.choice.var s.active (omega arith)))
       (rising-below (length s.active) (count - length s.active) (length all) (omega (arith, size, more)))
 
-  -- what a demand on another variable is given stays
+  -- another variable keeps its value
   stays : (v : Var) → same_var a.choice.var v ≡ false → value_in after v ≡ value_in s.trail v
   stays v other = value-push s.trail a.choice v h.free ∙ ap (λ b. cond b (Some a.choice.val) (value_in s.trail v)) other
 

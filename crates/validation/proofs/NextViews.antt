@@ -1,4 +1,4 @@
--- Shared: what a trail with one choice more stands for.
+-- Shared: the view of a trail with one more choice.
 use Rattle.std.proofs.Common.{◌≡◌, length, true, false, not, cond, ◌&&◌, ◌||◌, IsTrue, List, [], ◌∷◌, ◌++◌, Some, None, map, filter, refl, sym, ap, ◌∙◌, subst, inl, inr, append_assoc, append-nil}
 use Rattle.std.specs.List.{Contains, All, flat_map, list_all}
 use Rattle.std.proofs.lemmas.Bool.{and_parts}

@@ -1,4 +1,4 @@
--- The active demands of a state are those listed that are Yes.
+-- The active demands of a state are the listed ones that are Yes.
 use Rattle.std.proofs.Common.{◌≡◌, List, sym, ap, subst}
 use Rattle.std.specs.List.{Contains}
 use Rattle.choice_problem.specs.declared.problem.Demand.{Demand}

@@ -1,4 +1,4 @@
--- The verdict on a choice, and what it leaves, in terms of a stack that stands for a trail.
+-- The verdict on a choice and the state after it, by the stack of a trail.
 use Rattle.std.proofs.Common.{◌≡◌, ℕ, ◌<◌, length, drop, true, List, [], ◌∷◌, ◌++◌, Option, Some, None, find, map, refl, sym, ap, ◌∙◌, subst, append-nil}
 use Rattle.std.specs.List.{All}
 use Rattle.std.proofs.lemmas.List.Elements.{All-push, All-nil}
@@ -85,11 +85,11 @@ stands-made p x y c demands h d e lasting =
       lasting = lasting;
     }
 
--- the set of the rules on the value and on the demands before it
+-- the set of the rules on the value and the demands active before it
 abbrev pub early : Problem → View → Choice → List (Option (List Var))
 early p x c = barred_set p c ∷ set_of_first (find (refuses c) x.active) ∷ []
 
--- the sets of the rules on what came with it
+-- the sets of the rules on the demands that came with it
 abbrev pub late : View → ℕ → List (Option (List Var))
 late y before = set_of_first (find (is_broken y.trail) (drop before y.active)) ∷ lasting_sets y.trail y.active
 
@@ -117,7 +117,7 @@ conflict-late p x y c demands before o h d e count none is =
     (ap first_set (sym (early-is p x c h)) ∙ sym none)
     ∙ sym (is ∙ ap first_set (late-is p x y c demands before h d e count))
 
--- the conflict of a choice that the early rules allow is the first set of the others, as of the stack with it
+-- where the early rules allow a choice, its conflict is the first set of the other rules on the stack with it
 pub conflict-weighed : (p : Problem) (x : View) (c : Choice) (demands : List Demand) (o : Option (List Var)) → Ready p x c → demands ≡ p.demands c
     → None ≡ first_set (early p x c) → o ≡ set_after (made x c demands) → conflict p x.trail c ≡ o
 conflict-weighed p x c demands o h d none is =

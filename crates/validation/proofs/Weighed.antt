@@ -1,4 +1,4 @@
--- What a choice would make of a stack: the demands that would turn Yes, and the edges of all that would be active.
+-- A stack with a choice added: the demands that would become Yes, and the edges of all that would be active.
 use Rattle.std.proofs.Common.{◌≡◌, ◌↔◌, ℕ, ◌+◌, length, take, drop, Bool, true, false, cond, List, [], ◌∷◌, ◌++◌, Some, None, find, refl, sym, ap, ◌∙◌, subst, inl, inr, ◌⊎◌, length-append}
 use Rattle.std.specs.List.{Contains, list_any, slice_get}
 use Rattle.std.proofs.lemmas.Bool.{false≢true}
@@ -22,7 +22,7 @@ use Rattle.choice_stack.proofs.DemandGraphs.{edge-names, edge-owned}
 use Rattle.choice_stack.proofs.OpenVariables.{get-front, get-right}
 use Rattle.choice_stack.proofs.StackLemmas.{front-of, last-number}
 
--- the first that is broken
+-- the first broken demand
 
 pub first-left : (test : Demand → Bool) (xs ys : List Demand) (set : List Var) → set_of_first (find test xs) ≡ Some set → set_of_first (find test (xs ++ ys)) ≡ Some set
 first-left test [] ys set h = absurd (cc h)
@@ -57,7 +57,7 @@ pub edge-right : (xs ys : List Demand) (v w : Var) → HasEdge (edges_of ys) v w
 edge-right xs ys v w (e, within, from, to) =
     (e, subst (λ (l : List Edge). Contains l e) (sym (flat_map-append edges_by xs ys)) (contains-right (edges_of xs) (edges_of ys) e within), from, to)
 
--- what one variable owns, another doesn't
+-- a demand that one variable owns, another one doesn't
 pub none-owned : (demands : List Demand) (u v : Var) → AreOwned u demands → same_var u v ≡ false → targets_by v demands ≡ []
 none-owned [] u v owned other = refl
 none-owned (d ∷ demands) u v owned other =
@@ -69,7 +69,7 @@ none-owned (d ∷ demands) u v owned other =
     first-other [] u v h other = refl
     first-other (owner ∷ others) u v h other = ap (λ w. same_var w v) (same_var-is owner.var u h) ∙ other
 
--- what is found of three lists is found of all
+-- members found in three lists are those of all
 pub found-joined : (R : List Demand → Var → Type 0) → ((xs ys : List Demand) (v : Var) → R (xs ++ ys) v → R xs v ⊎ R ys v)
     → ((xs ys : List Demand) (v : Var) → R xs v → R (xs ++ ys) v) → ((xs ys : List Demand) (v : Var) → R ys v → R (xs ++ ys) v)
     → (active woken fresh : List Demand) (first second third : List Var) → ((v : Var) → (Contains first v) ↔ (R active v)) → ((v : Var) → (Contains second v) ↔ (R woken v))
@@ -91,7 +91,7 @@ found-joined R either left right active woken fresh first second third a b c v =
   ],
 )
 
--- a choice that is weighed
+-- a pending choice
 
 module _ (s : View) (c : Choice) (demands : List Demand) where
   pub before-is : count_before (made s c demands) ≡ length s.active

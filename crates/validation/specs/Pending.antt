@@ -1,4 +1,4 @@
--- What a choice would make of a stack.
+-- The stack that a choice would make.
 use Rattle.std.specs.Prelude.{◌≡◌, ℕ, ◌+◌, true, cond, List, [], ◌∷◌, ◌++◌, length, drop, find, Option, None}
 use Rattle.std.specs.List.{Contains}
 use Rattle.qualified_goals.specs.declared.variable.Var.{Var}
@@ -10,11 +10,11 @@ use Rattle.choice_stack.specs.declared.addition.Addition.{Addition}
 use Rattle.validation.specs.View.{View}
 use Rattle.choice_stack.specs.Stack.{IsSettled, is_owned_by, last_number, turned}
 
--- each of some demands is owned by the variable
+-- the variable owns each of the demands
 abbrev pub AreOwned : Var → List Demand → Type 0
 AreOwned v demands = (d : Demand) → Contains demands d → is_owned_by v d ≡ true
 
--- how many demands were active before the last choice
+-- the number of demands active before the last choice
 abbrev pub count_before : View → ℕ
 count_before s = last_number s.active_before
 
@@ -22,7 +22,7 @@ count_before s = last_number s.active_before
 abbrev pub first_broken : View → Option Demand
 first_broken s = find (is_broken s.trail) (drop (count_before s) s.active)
 
--- a choice may be made, these demands turn Yes with it, some of those listed and some of its own, and so many are active then
+-- a choice may be made; woken are the listed demands that become Yes with it, fresh its own ones; count are active then
 pub record ArePending (s : View) (a : Addition) (woken fresh : List Demand) (count : ℕ) : Type 0 where
   pub free : value_in s.trail a.choice.var ≡ None
   pub settled : IsSettled s
@@ -31,6 +31,6 @@ pub record ArePending (s : View) (a : Addition) (woken fresh : List Demand) (cou
   pub fresh_is : fresh ≡ turned (s.trail ++ a.choice ∷ []) a.choice.var a.demands
   pub counted : count ≡ length s.active + (length woken + length fresh)
 
--- the place of a demand, where it is on a variable
+-- the place of the demand, if it is on the variable
 abbrev pub place_if : ℕ → Var → Demand → List ℕ
 place_if place v d = cond (asks_for v d) (place ∷ []) []

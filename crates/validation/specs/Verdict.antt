@@ -15,7 +15,7 @@ abbrev pub verdict_of : Option (List Var) → Verdict
 verdict_of None = Accepted
 verdict_of (Some set) = Conflict set
 
--- the set of a value that is barred, or that an active demand refuses
+-- the conflict set of a value that is barred, or that an active demand refuses
 abbrev pub set_before : Problem → Choice → List Demand → Option (List Var)
 set_before p c active = first_set (barred_set p c ∷ set_of_first (find (refuses c) active) ∷ [])
 
@@ -23,7 +23,7 @@ set_before p c active = first_set (barred_set p c ∷ set_of_first (find (refuse
 abbrev pub set_after : View → Option (List Var)
 set_after s = first_set (set_of_first (first_broken s) ∷ lasting_sets s.trail s.active)
 
--- what a verdict leaves: an accepted choice stands behind the others, and a conflict changes nothing
+-- the state after a verdict: an accepted choice is appended, and a conflict changes nothing
 abbrev pub Leaves : Problem → View → View → Choice → Verdict → Type 0
 Leaves p old new c Accepted = Represents p new × (new.trail ≡ old.trail ++ c ∷ [])
 Leaves p old new c (Conflict set) = new ≡ old

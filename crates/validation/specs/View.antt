@@ -1,4 +1,4 @@
--- What a state stands for: choices of a problem, with the demands so far and those that are active.
+-- States as views of a problem's choices, with their listed and active demands.
 use Rattle.std.specs.Prelude.{◌≡◌, ℕ, List, [], ◌∷◌, ◌++◌, length, All, None}
 use Rattle.choice_problem.specs.declared.problem.Choice.{Choice}
 use Rattle.choice_problem.specs.Problem.{Problem, IsChoice}
@@ -7,17 +7,17 @@ use Rattle.choice_problem.specs.Active.{active}
 use Rattle.choice_problem.specs.Conflict.{lasting_set}
 pub use Rattle.choice_stack.specs.View.{View}
 
--- how many demands were listed before each of some choices, which come after others
+-- the number of demands listed before each choice, where other choices come before
 abbrev pub listed_counts : Problem → List Choice → List Choice → List ℕ
 listed_counts p before [] = []
 listed_counts p before (c ∷ rest) = length (demands_after p before) ∷ listed_counts p (before ++ c ∷ []) rest
 
--- how many were active
+-- the number of demands active before each
 abbrev pub counts_before : Problem → List Choice → List Choice → List ℕ
 counts_before p before [] = []
 counts_before p before (c ∷ rest) = length (active p before) ∷ counts_before p (before ++ c ∷ []) rest
 
--- what the choices of a trail make of a problem
+-- the view of a problem after the choices of a trail
 abbrev pub view_of : Problem → List Choice → View
 view_of p trail = record {
   trail = trail;
@@ -27,7 +27,7 @@ view_of p trail = record {
   active_before = counts_before p [] trail;
 }
 
--- the state is that of its choices, which are of different variables of the problem
+-- the state is the view of its trail; its choices are of different variables of the problem
 pub record Represents (p : Problem) (state : View) : Type 0 where
   pub choices : All (IsChoice p) state.trail
   pub new : AreNew state.trail

@@ -1,5 +1,5 @@
-//! The state of a search: the choices so far, and what they ask for. A choice of an open variable is accepted, or
-//! answered with the set of its conflict, and the last accepted choice can be taken back.
+//! The state of a search: the choices so far, with their listed and active demands. A choice of an open variable is
+//! accepted, or refused with its conflict set. The last accepted choice can be undone.
 #![tactic(auto)]
 
 mod pending;

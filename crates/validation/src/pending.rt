@@ -1,4 +1,4 @@
-// What a choice would make of a stack.
+// The stack that a choice would make.
 ghost use Rattle.std.specs.Prelude.{◌≡◌, ◌+◌, ◌++◌, None, IfOk, OnOk, take};
 ghost use Rattle.choice_problem.specs.Conflict.{agreement_set, first_clash, set_of_first};
 ghost use Rattle.choice_problem.specs.Trail.{value_in};
@@ -14,15 +14,15 @@ use plan_types::{List, NoMemory};
 use std::alloc::Global;
 use std::marker::Model;
 
-/// A stack, and what a choice of an open variable would add: what that would make of the stack, which stays as it is.
+/// A stack, and the addition of a choice of an open variable. It is seen as the stack that the choice would make.
 #[derive(Drop)]
 pub(crate) struct Pending<'a> {
     stack: &'a Stack,
     addition: &'a Addition,
-    // The listed demands that would turn Yes, and those of the choice that would be so at once.
+    // The listed demands that would become Yes, and those of the choice that would be Yes at once.
     woken: Picked<'a>,
     fresh: Picked<'a>,
-    // How many demands would be active.
+    // The number of demands that would be active.
     count: usize,
 }
 
@@ -58,7 +58,7 @@ impl<'a> Pending<'a> {
         })
     }
 
-    /// How many demands are active before the choice.
+    /// The number of demands active before the choice.
     pub(crate) fn before(&self) -> usize
         ensures { result ≡ count_before self.now }
     {
@@ -79,7 +79,7 @@ impl<'a> Pending<'a> {
 }
 
 impl<'a> Pending<'a> {
-    /// The set of the first two demands that must agree and don't, where there were none before the choice. One of them is
+    /// The set of the first two demands that disagree, where none disagreed before the choice. One of them is
     /// a demand that would become active, or one on the variable of the choice.
     pub(crate) fn disagreement(&self, alloc: Global) -> Result<Option<ConflictSet>, NoMemory>
         requires { first_clash (front_of self.now.trail) (take (count_before self.now) self.now.active) ≡ None }
@@ -162,7 +162,7 @@ fn push_on(found: &mut Vec<usize>, d: &Demand, place: usize, v: Var) -> Result<(
     Ok(())
 }
 
-// The targets of those of some demands of one owner that a variable owns.
+// The targets of the demands that a variable owns. All the demands have one owner.
 fn targets_within(
     alloc: Global,
     demands: &Picked<'_>,
@@ -190,7 +190,7 @@ fn joined(first: List<Var>, second: List<Var>, third: List<Var>) -> Result<List<
     Ok(all)
 }
 
-// The sum of three counts. One that is too large for a number is too large for memory.
+// The sum of three counts. A sum that overflows is out of memory.
 fn total(first: usize, second: usize, third: usize) -> Result<usize, NoMemory>
     ensures { IfOk result (λ sum. sum ≡ first + (second + third)) }
 {

@@ -1,4 +1,4 @@
-// The state of a search, and the verdict on one choice more.
+// The state of a search, and the verdict on one more choice.
 ghost use Rattle.std.specs.Prelude.{◌≡◌, ◌≢◌, ◌+◌, ◌<◌, List, ◌∷◌, [], ◌++◌, IfOk, IsTrue, OnErr, Some, None, take};
 ghost use Rattle.choice_problem.specs.declared.problem.Choice.{Choice};
 ghost use Rattle.choice_problem.specs.Problem.{Problem, IsChoice, Lawful};
@@ -22,7 +22,7 @@ use std::alloc::Global;
 use std::marker::Model;
 use std::sync::ledger::Ledger;
 
-/// The choices so far, and what they ask for.
+/// The choices so far, with their listed and active demands.
 #[derive(Drop)]
 pub struct State {
     stack: Stack,
@@ -53,7 +53,7 @@ impl State {
         self.open_after(None)
     }
 
-    /// The least open variable above one, or the least of all where none is given.
+    /// The least open variable behind `v`, or the least of all for `None`.
     pub fn open_after(&self, v: Option<Var>) -> Option<Var>
         ensures { (p : Problem) → Lawful p → Represents p self.now → result ≡ open_after p self.now.trail v }
     {
@@ -67,7 +67,7 @@ impl State {
         self.stack.is_open(v)
     }
 
-    /// Why an open variable is so: the variables of the condition of the first demand on it that became active.
+    /// The reason of an open variable: the variables in the condition of the first active demand on it.
     pub fn reason(&self, alloc: Global, v: Var) -> Result<ConflictSet, NoMemory>
         ensures { (p : Problem) → Represents p self.now
             → IfOk result (λ set. set ≡ set_of (reason p self.now.trail v)) }
@@ -84,7 +84,7 @@ impl State {
         self.stack.trail()
     }
 
-    /// The choices alone.
+    /// The choices as a list.
     pub fn into_trail(self) -> List<Choice>
         ensures trail { result ≡ self.trail }
         ensures different { AreOfDifferentVars result }
@@ -92,7 +92,7 @@ impl State {
         self.stack.into_trail()
     }
 
-    /// Makes a choice of the least open variable, or answers its conflict and leaves all as it was.
+    /// Makes a choice of the least open variable. A conflict changes nothing.
     pub fn choose<C: Choices, L: Ledger>(
         &mut self,
         alloc: Global,
@@ -112,7 +112,7 @@ impl State {
         self.choose_open(alloc, choices, c, steps)
     }
 
-    /// Makes a choice of an open variable, or answers its conflict and leaves all as it was.
+    /// Makes a choice of an open variable. A conflict changes nothing.
     pub fn choose_open<C: Choices, L: Ledger>(
         &mut self,
         alloc: Global,
@@ -142,7 +142,7 @@ impl State {
         Ok(Verdict::Accepted)
     }
 
-    /// Takes the last accepted choice back. It takes no memory.
+    /// Removes the last accepted choice. It allocates no memory.
     pub fn undo(&mut self)
         requires { self.old.trail ≢ [] }
         ensures stands { (p : Problem) → Represents p self.old → Represents p self.new }
@@ -152,7 +152,7 @@ impl State {
     }
 }
 
-// The set of a value that is barred, or that an active demand refuses.
+// The conflict set of a value that is barred, or that an active demand refuses.
 fn fault_before<C: Choices>(
     alloc: Global,
     choices: &C,
@@ -170,7 +170,7 @@ fn fault_before<C: Choices>(
     Ok(set)
 }
 
-// The set of a demand that would become active with a choice and be broken, or of the first lasting rule.
+// The set of a demand that the choice would make active and break, or of the first lasting rule that it breaks.
 fn fault_after(
     alloc: Global,
     stack: &Stack,
@@ -191,7 +191,7 @@ fn fault_after(
     Ok(set)
 }
 
-// The set of the first lasting rule, where these gave none before the last choice.
+// The set of the first broken lasting rule, where none was broken before the last choice.
 fn lasting_fault(alloc: Global, pending: &Pending<'_>) -> Result<Option<ConflictSet>, NoMemory>
     requires { lasting_set (front_of pending.now.trail) (take (count_before pending.now) pending.now.active) ≡ None }
     ensures { IfOk result (λ set. set ≡ lasting_set pending.now.trail pending.now.active) }

@@ -1,4 +1,4 @@
--- what the stack says is open is so
+-- the variables that the stack has as open are open
 use Rattle.std.proofs.Common.{◌∙◌, List, sym, ap}
 use Rattle.choice_problem.specs.declared.problem.Demand.{Demand}
 use Rattle.choice_problem.specs.Active.{waiting}
