@@ -1,4 +1,4 @@
--- Shared: lists by their last items, and nodes of which each but the last has given a value.
+-- Shared: lists by their last items, and nodes that have given a value, all but the last.
 use Rattle.std.proofs.Common.{◌≡◌, ◌≢◌, ℕ, Option, Some, None, ◌-◌, ◌<◌, ◌≤◌, List, [], ◌∷◌, ◌++◌, length, get_or, refl, sym, ap, ◌∙◌, subst, arith, length-append}
 use Rattle.std.specs.Prelude.{slice_set, MatchOption}
 use Rattle.std.specs.List.{All}
@@ -25,7 +25,7 @@ GaveOne node = 0 < node.given
 abbrev IsWithin : TreeNode → Type 0
 IsWithin node = node.given ≤ length node.values
 
--- all have given one where the last has and each before it
+-- all nodes have given a value, where the last one has
 all-given : (nodes : List TreeNode) → IsGrown nodes → HasGiven nodes → All GaveOne nodes
 all-given nodes grown last_given =
     elim (by-last nodes) [
@@ -71,7 +71,7 @@ grown-set nodes old new i some k is grown within =
           subst IsGrown (sym (set-last nodes outer node new i e k)) (grown-step outer node new (subst IsGrown e grown) (within old_within))
     ]
 
--- what the last node does is what the path does
+-- the path gives the next value of its last node
 pub next-of : (nodes : List TreeNode) (old new : TreeNode) (i : ℕ) (r : Option ℕ) → i ≡ length nodes - 1 → old ≡ get_or nodes i old
     → MatchOption r ((values_left old ≡ []) × (new ≡ old)) (Gives old new)
     → (outer : List TreeNode) (node : TreeNode) → nodes ≡ outer ++ node ∷ []

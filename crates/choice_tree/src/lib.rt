@@ -1,5 +1,5 @@
-//! The choices that a search is at, as a path of nodes that grows on demand: each node has its variable, its values in
-//! order, and how many of them it has given so far. What isn't on the path isn't kept.
+//! The path of a search through its tree of choices. Each node has a variable, its values in order, and the number of
+//! values given so far. Only the nodes of the path are kept.
 #![tactic(auto)]
 
 mod tree;

@@ -1,4 +1,4 @@
-// The path of nodes from the first choice of a search to the last.
+// The path of nodes from a search's first choice to its last.
 ghost use Rattle.std.specs.Prelude.{◌≡◌, ◌≢◌, ◌+◌, ◌-◌, ◌<◌, ◌≤◌, List, [], ◌∷◌, ◌++◌, length, drop, slice_index_or, MatchOption, OnOk, OnErr};
 ghost use Rattle.choice_tree.specs.declared.tree.TreeNode.{TreeNode};
 ghost use Rattle.choice_tree.specs.Tree.{fresh, stepped, values_left, choice_at, Gives, GivesNext, HasGiven, IsGrown};
@@ -8,7 +8,7 @@ use plan_types::{List, NoMemory};
 use std::alloc::Global;
 use std::marker::Model;
 
-/// A variable with its values in order, of which the first were given.
+/// A variable with its values in order. The first `given` of them were given.
 #[derive(Drop)]
 pub struct TreeNode {
     var: Var,
@@ -16,7 +16,7 @@ pub struct TreeNode {
     given: usize,
 }
 
-// The next value, where one is left.
+// The next value, if one is left.
 fn give(node: &mut TreeNode) -> Option<u64>
     ensures next { MatchOption result ((values_left node.old ≡ []) × (node.new ≡ node.old)) (Gives node.old node.new) }
     ensures within { node.old.given ≤ length node.old.values → node.new.given ≤ length node.new.values }
@@ -40,7 +40,7 @@ fn last_given(node: &TreeNode) -> Choice
     }
 }
 
-/// A path of nodes, of which each but the last has given a value.
+/// A path of nodes. Each but the last has given a value.
 #[derive(Drop)]
 pub struct Tree {
     nodes: Vec<TreeNode>,
@@ -68,7 +68,7 @@ impl Tree {
         }
     }
 
-    /// How many nodes there are. Each but the last has given a value.
+    /// The number of nodes. Each but the last has given a value.
     pub fn depth(&self) -> u64
         ensures count { result ≡ length self.now }
         ensures grown { IsGrown self.now }
@@ -84,7 +84,7 @@ impl Tree {
         self.nodes[self.nodes.len() - 1].var
     }
 
-    /// Adds a node that has given nothing yet.
+    /// Appends a node that has given no value yet.
     pub fn grow(&mut self, var: Var, values: List<u64>) -> Result<(), NoMemory>
         requires { HasGiven self.old }
         ensures ok { OnOk result (self.new ≡ self.old ++ fresh var values ∷ []) }
@@ -98,7 +98,7 @@ impl Tree {
         Ok(())
     }
 
-    /// The next value of the last node. There is none where all were given.
+    /// The next value of the last node, or `None` where all were given.
     pub fn next_value(&mut self) -> Option<u64>
         requires { self.old ≢ [] }
         ensures { (outer : List TreeNode) (node : TreeNode) → self.old ≡ outer ++ node ∷ [] → MatchOption result
@@ -109,7 +109,7 @@ impl Tree {
         give(&mut self.nodes[last])
     }
 
-    /// Takes the last node off.
+    /// Removes the last node.
     pub fn back(&mut self)
         requires { self.old ≢ [] }
         ensures { (outer : List TreeNode) (node : TreeNode) → self.old ≡ outer ++ node ∷ [] → self.new ≡ outer }
@@ -117,7 +117,7 @@ impl Tree {
         self.nodes.pop();
     }
 
-    /// The choice that a node stands for: its variable, with the value that it gave last.
+    /// The choice of a node: its variable, with the value given last.
     pub fn trail_at(&self, i: u64) -> Choice
         requires node { i < length self.now }
         requires given { (d : TreeNode) → 0 < (slice_index_or self.now i d).given }

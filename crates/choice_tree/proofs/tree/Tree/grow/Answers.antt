@@ -1,4 +1,4 @@
--- a new node stands behind those that have given
+-- a new node is appended to nodes that have given a value
 use Rattle.std.proofs.Common.{sym, subst, arith}
 use Rattle.choice_tree.specs.Tree.{fresh, IsGrown, HasGiven}
 use Rattle.choice_tree.proofs.NodePaths.{grown-push}

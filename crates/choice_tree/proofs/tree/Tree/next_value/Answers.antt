@@ -1,4 +1,4 @@
--- the last node steps on, or stays where nothing is left
+-- the last node gives its next value, or is unchanged where none is left
 use Rattle.std.proofs.Common.{◌≡◌, [], ◌≢◌, ◌-◌, List, ◌++◌, ◌∷◌, length, sym, subst, arith}
 use Rattle.std.specs.Prelude.{slice_set, MatchOption}
 use Rattle.choice_tree.specs.declared.tree.TreeNode.{TreeNode}
