@@ -63,7 +63,7 @@ module _ {G : Type 0} (recalls : Recalls G) (s : Search) where
     lighter = lighter-more most (4 * 1 + load old Try) new step moves.lighter (omega (arith, h));
   }
 
-  -- a node that steps on leaves the number of nodes
+  -- a node that gives a value leaves the number of nodes unchanged
   pub same-length : (w : Walk G) (visited n : ℕ) (tree : List TreeNode) → ((outer : List TreeNode) (node : TreeNode) → w.tree ≡ outer ++ node ∷ [] → GivesNext outer node tree n)
       → IsAt recalls s w visited Try → length tree ≡ length w.tree
   same-length w visited n tree t at =
@@ -82,7 +82,7 @@ module _ {G : Type 0} (recalls : Recalls G) (s : Search) where
   end-visited w visited (NoPlan set) at = sym (ap (λ k. k.visited) at.counts_are)
   end-visited w visited Stopped at = sym (ap (λ k. k.visited) at.counts_are)
 
-  -- a step on makes the tries that are left, each counting 4, and the load together less
+  -- each step reduces the sum of the load and of 4 for each try left
   pub smaller : (old new : Walk G) (turn next : Turn) (visited start before now : ℕ) → before ≡ start + visited → GoesOn recalls s old new turn visited before now (On next)
       → 4 * (all - (now - start)) + load new next < 4 * (all - (before - start)) + load old turn
   smaller old new turn next visited start before now h goes =

@@ -1,4 +1,4 @@
--- The steps of a search: the answer of the whole stays the same.
+-- The steps of a search keep the answer of the whole.
 use Rattle.std.proofs.Common.{◌≡◌, ℕ, suc, ◌+◌, ◌<◌, ◌≤◌, Bool, true, false, cond, ◌&&◌, List, [], ◌∷◌, ◌++◌, length, Option, Some, None, refl, sym, ap, ◌∙◌, subst, arith, length-append, lt-ltb, nat_lt}
 use Rattle.std.specs.Prelude.{min, MatchOption}
 use Rattle.std.specs.List.{All}
@@ -34,7 +34,7 @@ pub popped : {X : Type 0} (old new outer : List X) (x : X) (r : Option X)
 popped old new outer x None h e = absurd (snoc-none outer x [] (sym h.0 ∙ e))
 popped old new outer x (Some last) h e = (snoc-same new last outer x (sym h ∙ e)).0
 
--- walks that differ from one in some parts
+-- walks with one part replaced
 abbrev pub with_tree : {G : Type 0} → Walk G → List TreeNode → Walk G
 with_tree w tree = record { tree = tree; failed = w.failed; state = w.state; counts = w.counts; guide = w.guide }
 
@@ -60,7 +60,7 @@ pub chain-given : (p : Problem) (points : List Point) (prefix : List Choice) (fu
 chain-given p [] prefix fuel h outer node e = absurd (snoc-none outer node [] e)
 chain-given p (point ∷ rest) prefix fuel h outer node e = subst (λ (n : TreeNode). 0 < n.given) (snoc-same (nodes_of rest) point.node outer node e).1 h.0.given
 
--- a chain with points ends a prefix with choices
+-- a chain with points has a prefix with choices
 pub chain-some : (p : Problem) (outer : List Point) (prefix : List Choice) (fuel : ℕ) → IsChain p outer prefix fuel → (length (nodes_of outer) ≡ 0 → ⊥) → prefix ≡ [] → ⊥
 chain-some p [] prefix fuel h some e = some refl
 chain-some p (point ∷ outer) prefix fuel h some e = snoc-none point.prefix (choice_at point.node) [] (sym e ∙ h.0.prefix_is)
@@ -213,7 +213,7 @@ module _ {G : Type 0} (recalls : Recalls G) (s : Search) where
       let answer = cut-end set (past_at w visited at.met) at.outer at.answer (sym (ap length (t (nodes_of at.outer) at.point.node at.held.nodes)) ∙ h) in
       record { next = record { visited_is = at.held.visited_is; ended_is = ap (λ a. a.ended) answer; counts_are = ap (λ a. a.past.counts) answer }; lighter = tt }
 
-  -- what a guide recalls once the last choice, of a node's variable, was taken back
+  -- the recall of a guide after the last choice is undone
   abbrev pub TakesBack : G → G → List TreeNode → Type 0
   TakesBack old new tree = (outer : List TreeNode) (node : TreeNode) → tree ≡ outer ++ node ∷ []
       → (met : List (List Var)) (front : List Choice) (c : Choice) → c.var ≡ node.var → value_in front node.var ≡ None → recalls old met (front ++ c ∷ []) → recalls new met front
@@ -316,7 +316,7 @@ module _ {G : Type 0} (recalls : Recalls G) (s : Search) where
             ∙ ap (λ n. resume s at.outer (failed_with set (record { counts = counts_of visited n; met = set ∷ at.met }))) (sym k);
       }
 
-  -- a set that has the point's variable is kept there, and one that lacks it is handed on
+  -- a set with the point's variable stays there, and another one leaves the point
 
   pub back-kept : (w : Walk G) (visited : ℕ) (set : List Var) (failed : List (List Var)) (at : AtBack recalls s w visited set) → has set at.point.node.var ≡ true
       → ((outer : List (List Var)) (before : List Var) → w.failed ≡ outer ++ before ∷ [] → failed ≡ outer ++ union before set ∷ [])

@@ -1,4 +1,4 @@
--- What an answer hands up, and that the count of tries never falls.
+-- Answers of outer points by those of inner ones. The count of tries never falls.
 use Rattle.std.proofs.Common.{◌≡◌, ℕ, zero, suc, ◌≤◌, true, false, cond, not, ◌&&◌, List, [], ◌∷◌, ◌++◌, Some, None, refl, ap, arith}
 use Rattle.qualified_goals.specs.declared.variable.Var.{Var}
 use Rattle.choice_problem.specs.declared.problem.Choice.{Choice}
@@ -30,7 +30,7 @@ module _ (s : Search) where
       let rest = resume-rises outer (of_point_after s point answer) in
       omega (arith, one, rest)
 
-  -- a trail that was found is handed up, and so is that a search gave up
+  -- a trail found, or the limit reached, is the answer of all outer points
   pub resume-found : (points : List Point) (trail : List Choice) (past : Past)
       → resume s points (record { ended = Found trail; past = past }) ≡ record { ended = Found trail; past = past }
   unfolding resume
@@ -50,7 +50,7 @@ module _ (s : Search) where
   unfolding resume
   resume-point point outer answer = refl
 
-  -- a set that lacks the point's variable leaves the point, and one that has it is kept there
+  -- a set without the point's variable leaves the point, and one with it stays there
   pub after-lacking : (point : Point) (set : List Var) (past : Past) → has set point.node.var ≡ false
       → of_point_after s point (failed_with set past) ≡ failed_with set past
   after-lacking point set past e =

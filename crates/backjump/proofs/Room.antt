@@ -20,7 +20,7 @@ use Rattle.backjump.specs.Walk.{Point, IsChain}
 abbrev AreChoices : Problem → List Choice → Type 0
 AreChoices p trail = (c : Choice) → Contains trail c → IsChoice p c
 
--- a map without a variable lacks it before its last choice, which is of another one
+-- a variable without a value had none before the last choice, which is of another variable
 none-before : (before : List Choice) (c : Choice) (w : Var) → value_in (before ++ c ∷ []) w ≡ None → (value_in before w ≡ None) × (same_var c.var w ≡ false)
 none-before [] c w h =
     elim (same_var c.var w) as (λ b. same_var c.var w ≡ b → cond b (Some c.val) None ≡ None → (value_in [] w ≡ None) × (b ≡ false)) [
@@ -34,7 +34,7 @@ none-before (d ∷ before) c w h =
     ] h
 
 module _ (p : Problem) (lawful : Lawful p) where
-  -- the known variables that aren't chosen
+  -- the known variables without a choice
   record Room (trail : List Choice) : Type 0 where
     rest : List Var
     count : length rest + length trail ≤ p.bound
@@ -67,7 +67,7 @@ module _ (p : Problem) (lawful : Lawful p) where
   choices-of : (trail : List Choice) → All (IsChoice p) trail → AreChoices p trail
   choices-of trail h c k = All-contains (IsChoice p) trail c h k
 
-  -- where a variable is open, one choice more may follow
+  -- where a variable is open, one more choice may follow
   pub fuel-left : (points : List Point) (trail : List Choice) (fuel : ℕ) (v : Var) → AreNew trail → All (IsChoice p) trail → IsChain p points trail fuel → is_open p trail v ≡ true
       → (less : ℕ) × (fuel ≡ suc less)
   fuel-left points trail fuel v new choices chain h =

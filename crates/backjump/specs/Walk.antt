@@ -1,4 +1,4 @@
--- Where a search is: the points on its way, and what the whole search answers from there.
+-- States of a search: the points on its path, and the answer of the whole search from there.
 use Rattle.std.specs.Prelude.{◌≡◌, ℕ, suc, ◌+◌, ◌*◌, ◌<◌, ◌≤◌, min, true, IsTrue, List, [], ◌∷◌, ◌++◌, length, All}
 use Rattle.plan_types.specs.declared.limit.Limit.{Limit}
 use Rattle.qualified_goals.specs.declared.variable.Var.{Var}
@@ -21,19 +21,19 @@ use Rattle.backjump.specs.declared.walk.End.TheVariants.{Whole, NoPlan, Stopped}
 use Rattle.backjump.specs.declared.walk.WalkStep.{WalkStep}
 use Rattle.backjump.specs.declared.walk.WalkStep.TheVariants.{On, Done}
 
--- a point of a search: the choices before it, its node, the sets of its failed values together, and how many choices
--- may follow one of its own
+-- a point of a search: the choices before it, its node, the union of its failed values' sets, and the number of choices
+-- that may follow its own
 pub record Point : Type 0 where
   pub prefix : List Choice
   pub node : TreeNode
   pub failed : List Var
   pub fuel : ℕ
 
--- a search that leaves points early
+-- a search with backjumps
 abbrev pub manner_of : Guide → Limit → Manner
 manner_of guide limit = record { guide = guide; limit = limit; jumps = true }
 
--- a problem, and the guide and the limit of a search over it
+-- a search: its problem, guide and limit
 pub record Search : Type 0 where
   pub problem : Problem
   pub guide : Guide
@@ -42,70 +42,70 @@ pub record Search : Type 0 where
 abbrev pub search_of : Problem → Guide → Limit → Search
 search_of p guide limit = record { problem = p; guide = guide; limit = limit }
 
--- how it goes
+-- the parameters of a search
 abbrev pub manner : Search → Manner
 manner s = manner_of s.guide s.limit
 
--- what it answers
+-- the answer of a search
 abbrev pub whole : Search → Answer
 whole s = guided_answer s.guide s.problem s.limit
 
--- the answer of some choices, which at most fuel many may follow
+-- the answer of a prefix that at most fuel choices may follow
 abbrev pub below : ℕ → Search → List Choice → Past → Answer
 below fuel s prefix past = answer_from fuel (manner s) s.problem prefix past
 
--- the answer of a point with the values that its node has left, after sets of those that failed
+-- the answer of a point by its node's values left, with the union of the failed values' sets
 abbrev pub of_point : Search → Point → List Var → Past → Answer
 of_point s point failed past =
     of_values (below point.fuel s) (manner s) s.problem point.prefix point.node.var (values_left point.node) failed past
 
--- the answer of a point, where the value that its node gave last has this one
+-- the answer of a point, given that of the value that its node gave last
 abbrev pub of_point_after : Search → Point → Answer → Answer
 of_point_after s point answer =
     after_value (manner s) point.node.var answer (λ set now. of_point s point (union point.failed set) now)
 
--- the answer of the first point, where the innermost one's value has this answer; the innermost comes first
+-- the answer of the outermost point, given that of the innermost one's value; the innermost comes first
 unfoldable pub resume : Search → List Point → Answer → Answer
 resume s [] answer = answer
 resume s (point ∷ outer) answer = resume s outer (of_point_after s point answer)
 
--- the points' nodes and sets, innermost last
+-- the points' nodes, innermost last
 abbrev pub nodes_of : List Point → List TreeNode
 nodes_of [] = []
 nodes_of (point ∷ outer) = nodes_of outer ++ point.node ∷ []
 
--- the sets of the points, innermost last
+-- the points' failed sets, innermost last
 abbrev pub sets_of : List Point → List (List Var)
 sets_of [] = []
 sets_of (point ∷ outer) = sets_of outer ++ point.failed ∷ []
 
--- the point's variable is open, and its node has values of it left
+-- the point's variable is open, and the values left are of its domain
 pub record IsPoint (p : Problem) (point : Point) : Type 0 where
   pub opened : IsTrue (is_open p point.prefix point.node.var)
   pub values : All (λ n. n < p.domain point.node.var) (values_left point.node)
 
--- the value that a point gave last was chosen: it ends a prefix, which at most fuel many choices may follow
+-- the value that a point gave last ends the prefix, which at most fuel choices may follow
 pub record IsMade (p : Problem) (point : Point) (prefix : List Choice) (fuel : ℕ) : Type 0 where
   pub is : IsPoint p point
   pub given : 0 < point.node.given
   pub prefix_is : prefix ≡ point.prefix ++ choice_at point.node ∷ []
   pub fuel_is : fuel ≡ point.fuel
 
--- these points made the choices of a prefix
+-- the choices of these points are the prefix
 abbrev pub IsChain : Problem → List Point → List Choice → ℕ → Type 0
 IsChain p [] prefix fuel = (prefix ≡ []) × (fuel ≡ p.bound)
 IsChain p (point ∷ outer) prefix fuel = IsMade p point prefix fuel × IsChain p outer point.prefix (suc point.fuel)
 
--- an answer that names a set
+-- the answer of a failure with this set
 abbrev pub failed_with : List Var → Past → Answer
 failed_with set past = record { ended = Failed set; past = past }
 
--- what a walk has behind it after so many tries and these sets
+-- the counts and conflict sets of a walk, with this number of tries
 abbrev pub past_at : {G : Type 0} → Walk G → ℕ → List (List Var) → Past
 past_at w visited met = record { counts = counts_of visited w.counts.exhausted; met = met }
 
 module _ {G : Type 0} (recalls : Recalls G) where
-  -- a walk holds these points, after so many tries and these sets
+  -- a walk has these points, this number of tries and these conflict sets
   pub record IsHeld (p : Problem) (w : Walk G) (visited : ℕ) (met : List (List Var)) (points : List Point) : Type 0 where
     pub stands : Represents p w.state
     pub nodes : w.tree ≡ nodes_of points
@@ -113,7 +113,7 @@ module _ {G : Type 0} (recalls : Recalls G) where
     pub visited_is : w.counts.visited ≡ min visited cap
     pub recalled : recalls w.guide met w.state.trail
 
-  -- the walk has a choice for each node, and the search's answer is that of its trail, handed up
+  -- the walk has a choice for each node, and the answer of its trail decides that of the search
   pub record AtLook (s : Search) (w : Walk G) (visited : ℕ) : Type 0 where
     pub met : List (List Var)
     pub points : List Point
@@ -122,7 +122,7 @@ module _ {G : Type 0} (recalls : Recalls G) where
     pub chain : IsChain s.problem points w.state.trail fuel
     pub answer : whole s ≡ resume s points (below fuel s w.state.trail (past_at w visited met))
 
-  -- the walk is at its last node, and the search's answer is the one that this point has, handed up
+  -- the walk is at its last node, and this point's answer decides that of the search
   pub record AtPoint (s : Search) (w : Walk G) (visited : ℕ) (answer_at : Point → Past → Answer) : Type 0 where
     pub met : List (List Var)
     pub point : Point
@@ -133,7 +133,7 @@ module _ {G : Type 0} (recalls : Recalls G) where
     pub chain : IsChain s.problem outer point.prefix (suc point.fuel)
     pub answer : whole s ≡ resume s outer (answer_at point (past_at w visited met))
 
-  -- it tries the values that are left
+  -- the walk tries the values left
   abbrev pub AtTry : Search → Walk G → ℕ → Type 0
   AtTry s w visited = AtPoint s w visited (λ point past. of_point s point point.failed past)
 
@@ -157,7 +157,7 @@ module _ {G : Type 0} (recalls : Recalls G) where
     pub choice : choice_at at.point.node ≡ choice_of at.point.node.var n
     pub value : n < s.problem.domain at.point.node.var
 
-  -- where a walk is at a turn
+  -- the state of a walk at a turn
   abbrev pub IsAt : Search → Walk G → ℕ → Turn → Type 0
   IsAt s w visited Look = AtLook s w visited
   IsAt s w visited Try = AtTry s w visited
@@ -175,45 +175,45 @@ IsEnd s w visited Whole = HasEnded s w visited (Found w.state.trail)
 IsEnd s w visited (NoPlan set) = HasEnded s w visited (Failed set)
 IsEnd s w visited Stopped = HasEnded s w visited GaveUp
 
--- a number that each step makes smaller, where a try counts 4
+-- a turn's part of the load, which each step reduces; a try counts 4
 abbrev pub weight : Turn → ℕ
 weight Look = 3
 weight Try = 0
 weight (Back set) = 1
 
--- what is left to do at a turn, but for the tries
+-- the work left at a turn, without the tries
 abbrev pub load : {G : Type 0} → Walk G → Turn → ℕ
 load w turn = 2 * length w.tree + weight turn
 
--- a step leaves less to do than this
+-- the load after a step is below most
 abbrev pub IsLighter : {G : Type 0} → ℕ → Walk G → WalkStep → Type 0
 IsLighter most w (On turn) = load w turn < most
 IsLighter most w (Done end) = Unit {0}
 
--- a step that found no memory made no more tries than the search makes
+-- a step that ran out of memory; the tries so far are at most those of the search
 pub record StopsAt (s : Search) (visited before now : ℕ) : Type 0 where
   pub tried : ℕ
   pub steps : now ≡ before + tried
   pub most : visited + tried ≤ (whole s).past.counts.visited
 
--- a set is added to the last one
+-- the last set is replaced by its union with the set
 abbrev pub AddsToLast : List Var → List (List Var) → List (List Var) → Type 0
 AddsToLast set old new = (outer : List (List Var)) (before : List Var) → old ≡ outer ++ before ∷ [] → new ≡ outer ++ union before set ∷ []
 
 module _ {G : Type 0} (recalls : Recalls G) where
-  -- where a step leads
+  -- the state after a step
   abbrev pub IsNext : Search → Walk G → ℕ → WalkStep → Type 0
   IsNext s w visited (On turn) = IsAt recalls s w visited turn
   IsNext s w visited (Done end) = IsEnd s w visited end
 
-  -- a step from a turn on, with so many tries
+  -- a step from a turn, with a number of tries
   pub record GoesOn (s : Search) (old new : Walk G) (turn : Turn) (visited before now : ℕ) (step : WalkStep) : Type 0 where
     pub tried : ℕ
     pub steps : now ≡ before + tried
     pub next : IsNext s new (visited + tried) step
     pub lighter : IsLighter (4 * tried + load old turn) new step
 
-  -- a step from a turn on, whatever was tried before
+  -- a step from a turn, after any number of tries
   abbrev pub Goes : Search → Walk G → Walk G → Turn → ℕ → ℕ → WalkStep → Type 0
   Goes s old new turn before now step = (visited : ℕ) → IsAt recalls s old visited turn → GoesOn s old new turn visited before now step
 
@@ -222,45 +222,45 @@ module _ {G : Type 0} (recalls : Recalls G) where
     pub next : IsNext s new visited step
     pub lighter : IsLighter most new step
 
-  -- the next variable is looked for
+  -- a step that picks the next variable
   abbrev pub Looks : Search → Walk G → Walk G → WalkStep → Type 0
   Looks s old new step = (visited : ℕ) → AtLook recalls s old visited → Moves s new visited (load old Look) step
 
-  -- a value that the last node gave is tried
+  -- a step that tries the value given by the last node
   abbrev pub Tries : Search → ℕ → Walk G → Walk G → WalkStep → Type 0
   Tries s value old new step = (visited : ℕ) → AtValue recalls s old visited value → Moves s new (visited + 1) (4 + load old Try) step
 
-  -- the last node, which has failed with this set, is left
+  -- a step that leaves the last node, which has failed with this set
   abbrev pub Cuts : List Var → Walk G → Walk G → WalkStep → Type 0
   Cuts set old new step = (s : Search) (visited : ℕ) → AtCut recalls s old visited set → Moves s new visited (load old Try) step
 
-  -- all values of the last node have failed
+  -- a step after all values of the last node have failed
   abbrev pub Exhausts : Guide → Limit → Walk G → Walk G → WalkStep → Type 0
   Exhausts guide limit old new step = (p : Problem) (visited : ℕ) → AtExhausted recalls (search_of p guide limit) old visited
       → Moves (search_of p guide limit) new visited (load old Try) step
 
-  -- the value that the last node gave has failed with this set
+  -- a step after the value given by the last node has failed with this set
   abbrev pub Falls : List Var → Walk G → Walk G → WalkStep → Type 0
   Falls set old new step = (s : Search) (visited : ℕ) → AtBack recalls s old visited set → Moves s new visited (load old Try + 1) step
 
-  -- the set of the innermost point, of which all values have failed: those of its values, its variable and its reason
+  -- the set of the exhausted innermost point: the union of its values' sets, its variable and its reason
   abbrev pub IsPointSet : Walk G → List Var → Type 0
   IsPointSet w set = (p : Problem) (visited : ℕ) (met : List (List Var)) (point : Point) (outer : List Point) → IsHeld recalls p w visited met (point ∷ outer)
       → w.state.trail ≡ point.prefix → set ≡ union point.failed (set_of (point.node.var ∷ reason p point.prefix point.node.var))
 
-  -- a step from a turn on that found no memory
+  -- a step from a turn that ran out of memory
   abbrev pub Stops : Search → Walk G → Turn → ℕ → ℕ → Type 0
   Stops s old turn before now = (visited : ℕ) → IsAt recalls s old visited turn → StopsAt s visited before now
 
-  -- the walk is there after some number of tries
+  -- the walk is at this turn, after some number of tries
   abbrev pub SomeAt : Search → Walk G → Turn → Type 0
   SomeAt s w turn = (visited : ℕ) × IsAt recalls s w visited turn
 
-  -- the last node has given this value, which isn't tried yet, after some number of tries
+  -- the walk is at this untried value of the last node, after some number of tries
   abbrev pub SomeValue : Search → Walk G → ℕ → Type 0
   SomeValue s w n = (visited : ℕ) × AtValue recalls s w visited n
 
-  -- the same, for some problem
+  -- the walk is at its last node, for some problem and after some number of tries
   pub record SomePoint (w : Walk G) : Type 0 where
     pub p : Problem
     pub visited : ℕ

@@ -1,4 +1,4 @@
-// The search, from a problem to its outcome.
+// The search of a problem.
 ghost use Rattle.std.specs.Prelude.{◌≡◌, ◌+◌, ◌≤◌, [], IfOk, OnOk, OnErr};
 ghost use Rattle.choice_problem.specs.Answer.{answer_of, guided_answer, outcome_of};
 
@@ -9,7 +9,7 @@ use plan_types::NoMemory;
 use std::alloc::Global;
 use std::sync::ledger::Ledger;
 
-/// Searches a problem, trying the values of the least open variable in their order. Each try is counted by `steps`.
+/// Searches a problem by the least open variables, with their values in order. `steps` counts each try.
 pub fn search<C: Choices, L: Ledger>(
     alloc: Global,
     choices: &C,
@@ -25,8 +25,8 @@ pub fn search<C: Choices, L: Ledger>(
     guided_search(alloc, choices, Least, limit, steps)
 }
 
-/// Searches a problem, trying the values of the variables that a guide picks in their order. The guide was told of
-/// nothing.
+/// Searches a problem by the variables that the guide picks, with their values in order. The guide recalls no conflict
+/// sets and no choices at the start.
 pub fn guided_search<C: Choices, G: Guide + Drop, L: Ledger>(
     alloc: Global,
     choices: &C,

@@ -1,4 +1,4 @@
-// Who picks the variables of a search.
+// Guides pick the variables of a search.
 ghost use Rattle.std.specs.Prelude.{◌≡◌, List, OnOk, OnErr};
 ghost use Rattle.qualified_goals.specs.declared.variable.Var.{Var};
 ghost use Rattle.choice_problem.specs.declared.problem.Choice.{Choice};
@@ -14,21 +14,21 @@ use plan_types::NoMemory;
 use std::alloc::Global;
 use validation::State;
 
-/// Picks the variables of a search. It is told of each conflict set that is met, and of each choice that is made or
-/// taken back.
+/// Picks the variables of a search. The search reports each conflict set, and each choice that is made or
+/// undone.
 pub trait Guide {
-    // which of the open variables it picks
+    // the picks, as a function of conflict sets and open variables
     ghost picks: { spec.Guide };
 
-    // it has been told of these conflict sets, the last one first, and of these choices
+    // the guide recalls these conflict sets, the last one first, and these choices
     ghost recalls: { Self → List (List Var) → List Choice → Type 0 };
 
-    /// The variable that is tried next, or none where none is open.
+    /// The next variable, or `None` where none is open.
     fn pick(&self, state: &State) -> Option<Var>
         ensures { (p : Problem) (met : List (List Var)) → Lawful p → Represents p state.now
             → recalls self.now met state.now.trail → result ≡ picks met (open_in p state.now.trail) };
 
-    /// A conflict set was met after these choices.
+    /// The search has this conflict set, after these choices.
     fn learn(&mut self, alloc: Global, set: &ConflictSet, trail: &Trail) -> Result<(), NoMemory>
         ensures ok { OnOk result (Learns recalls set.now trail.now self.old self.new) }
         ensures err { OnErr result (RecallsStill recalls trail.now self.old self.new) };
@@ -37,7 +37,7 @@ pub trait Guide {
     fn chosen(&mut self, v: Var)
         ensures { Follows recalls v self.old self.new };
 
-    /// The last choice, which was one of this variable, was taken back.
+    /// The last choice, which was of this variable, was undone.
     fn taken_back(&mut self, v: Var) -> Result<(), NoMemory>
         ensures ok { OnOk result (GoesBack recalls v self.old self.new) }
         ensures err { OnErr result ((trail : List Choice) → RecallsStill recalls trail self.old self.new) };
@@ -45,7 +45,7 @@ pub trait Guide {
     ghost is_guide: { spec.IsGuide picks };
 }
 
-/// Picks the least open variable, and remembers nothing.
+/// Picks the least open variable, and recalls nothing.
 #[derive(Clone, Copy, Debug, Drop)]
 pub struct Least;
 

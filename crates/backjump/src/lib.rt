@@ -1,5 +1,6 @@
-//! The search for a plan: it tries the values of a variable that a guide picks, such as the least open one, in their
-//! order, and hands the set of a conflict down to the nearest choice that the set names, past those that it doesn't.
+//! The search for a plan. A guide picks the next variable, such as the least open one, and its values are tried in
+//! order. A conflict set leads back to the last choice of a variable in it (a backjump). The search ends with the
+//! outcome that its definition has: a plan, a set that admits none, or the limit.
 #![tactic(auto)]
 
 mod answer;

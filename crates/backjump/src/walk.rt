@@ -1,4 +1,4 @@
-// The steps of a search: a point is opened, its values are tried, and it is left.
+// The steps of a search: it opens a point, tries its values, and leaves it.
 ghost use Rattle.std.specs.Prelude.{◌≡◌, ◌≢◌, ◌+◌, ◌*◌, ◌<◌, ◌≤◌, ◌&&◌, ◌++◌, ℕ, List, [], ◌∷◌};
 ghost use Rattle.std.specs.Prelude.{length, IfOk, OnErr, OnOk, nat_lt};
 ghost use Rattle.qualified_goals.specs.declared.variable.Var.{Var};
@@ -19,18 +19,18 @@ use std::alloc::Global;
 use std::sync::ledger::Ledger;
 use validation::{State, Verdict};
 
-/// What a search does next.
+/// The next step of a search.
 #[derive(Drop)]
 pub enum Turn {
-    /// It asks the guide for a variable.
+    /// The guide picks a variable.
     Look,
-    /// It tries the next value of the last node.
+    /// The next value of the last node is tried.
     Try,
-    /// It goes back: the value that the last node gave has failed, with this set.
+    /// The value that the last node gave has failed, with this set.
     Back(ConflictSet),
 }
 
-/// How a search ends: with the choices that were made, with a set that admits none, or at its limit.
+/// The end of a search: its choices are a plan, a set admits none, or the limit is reached.
 #[derive(Drop)]
 pub enum End {
     Whole,
@@ -44,8 +44,8 @@ pub enum WalkStep {
     Done(End),
 }
 
-/// A search on its way: a node for each choice, and one for the variable that is tried; for each node the sets of its
-/// failed values together; the choices; the counts; and who picks the variables.
+/// A search in progress. The tree has a node for each choice, and one for the variable that is tried. `failed` has for
+/// each node the union of its failed values' sets.
 pub struct Walk<G> {
     tree: Tree,
     failed: List<ConflictSet>,
@@ -76,7 +76,7 @@ fn reached(limit: Limit, exhausted: u64) -> bool
     }
 }
 
-// The first node never gives up.
+// Whether the limit ends the search at this node. The first node never ends it.
 fn gives_up(limit: Limit, depth: u64, exhausted: u64) -> bool
     ensures { result ≡ (nat_lt 1 depth && is_reached limit exhausted) }
 {
@@ -90,7 +90,7 @@ fn last_of(sets: &[ConflictSet]) -> &ConflictSet
     &sets[sets.len() - 1]
 }
 
-// Adds a set to the last one.
+// Replaces the last set by its union with this one.
 fn add_failed(
     alloc: Global,
     failed: &mut List<ConflictSet>,
@@ -105,7 +105,7 @@ fn add_failed(
     Ok(())
 }
 
-// The set of a variable whose values have all failed, with these sets together.
+// The set of an exhausted variable: the union of its values' sets, the variable and its reason.
 fn blamed(
     alloc: Global,
     failed: &ConflictSet,
@@ -122,7 +122,7 @@ fn blamed(
 }
 
 impl<G: Guide + Drop> Walk<G> {
-    /// The start, before any choice, with a guide that was told of nothing.
+    /// The start, without choices. The guide recalls nothing.
     pub fn start<C: Choices>(alloc: Global, choices: &C, guide: G) -> Result<Walk<G>, NoMemory>
         requires { G.recalls guide [] [] }
         ensures { IfOk result (λ walk. (limit : Limit) →
@@ -141,7 +141,7 @@ impl<G: Guide + Drop> Walk<G> {
         })
     }
 
-    /// What a search that has ended hands out.
+    /// The outcome of a search that has ended.
     pub fn outcome(self, end: End) -> Outcome
         ensures { (s : Search) (visited : ℕ) → IsEnd s self visited end → result ≡ outcome_of (whole s) }
     {
@@ -160,7 +160,7 @@ impl<G: Guide + Drop> Walk<G> {
         }
     }
 
-    // The next variable gets a node.
+    // Adds a node for the next variable.
     fn look<C: Choices>(
         &mut self,
         alloc: Global,
@@ -181,7 +181,7 @@ impl<G: Guide + Drop> Walk<G> {
         }
     }
 
-    // Chooses the value that the last node gave.
+    // Tries the choice of the value that the last node gave.
     fn choose<C: Choices, L: Ledger>(
         &mut self,
         alloc: Global,
@@ -212,7 +212,7 @@ impl<G: Guide + Drop> Walk<G> {
         }
     }
 
-    // Leaves the last node, and hands its set to the one below.
+    // Removes the last node. The value of the node before has failed with its set.
     fn cut(&mut self, set: ConflictSet) -> Result<WalkStep, NoMemory>
         requires { SomePoint G.recalls self.old }
         ensures { IfOk result (Cuts G.recalls set self.old self.new) }
@@ -227,7 +227,7 @@ impl<G: Guide + Drop> Walk<G> {
         Ok(WalkStep::On(Turn::Back(set)))
     }
 
-    // The set of the last node, of which all values have failed.
+    // The set of the last node, which is exhausted.
     fn exhausted_set(&self, alloc: Global) -> Result<ConflictSet, NoMemory>
         requires { SomePoint G.recalls self.now }
         ensures { IfOk result (IsPointSet G.recalls self.now) }
@@ -238,7 +238,7 @@ impl<G: Guide + Drop> Walk<G> {
         Ok(set)
     }
 
-    // Ends the last node, of which all values have failed.
+    // Leaves the last node, which is exhausted, or ends the search at its limit.
     fn exhaust(&mut self, alloc: Global, limit: Limit) -> Result<WalkStep, NoMemory>
         requires { SomePoint G.recalls self.old }
         ensures { IfOk result (Exhausts G.recalls G.picks limit self.old self.new) }
@@ -273,7 +273,7 @@ impl<G: Guide + Drop> Walk<G> {
         }
     }
 
-    // The value that the last node gave has failed: a set that names its variable is kept there.
+    // The last node's value has failed. A set with the node's variable stays there; another one leaves the node.
     fn fall(&mut self, alloc: Global, set: ConflictSet) -> Result<WalkStep, NoMemory>
         requires { SomePoint G.recalls self.old }
         ensures { IfOk result (Falls G.recalls set self.old self.new) }

@@ -1,4 +1,4 @@
--- the search is at this turn, after as many tries as were counted; each step makes the load less, where a try that is left counts 4
+-- the search is at this turn after the counted tries; each step reduces the load, where each try left counts 4
 use Rattle.std.proofs.Common.{◌≡◌, ℕ, ◌+◌, ◌-◌, ◌*◌}
 use Rattle.backjump.specs.Walk.{search_of, whole, IsAt, load}
 use Rattle.backjump.proofs.answer.guided_search.Given as goal

@@ -1,4 +1,4 @@
--- the last set is united with the other
+-- the last set becomes the union
 use Rattle.std.proofs.Common.{◌≡◌, ◌-◌, length, [], ◌∷◌, ◌++◌, ap, ◌∙◌, arith}
 use Rattle.choice_problem.specs.ConflictSet.{union}
 use Rattle.choice_tree.proofs.NodePaths.{set-last}

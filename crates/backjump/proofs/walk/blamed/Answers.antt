@@ -1,4 +1,4 @@
--- the variable and the reason make the set of both
+-- the union of the variable and its reason
 use Rattle.std.proofs.Common.{ap, ◌∙◌}
 use Rattle.choice_problem.specs.ConflictSet.{union}
 use Rattle.backjump.proofs.Sets.{blamed-is}

@@ -1,4 +1,4 @@
--- the choice is kept, or its conflict fails the value
+-- the choice is accepted, or the value fails with its conflict
 use Rattle.std.proofs.Common.{true, ◌≡◌, ◌+◌, ◌++◌, ◌∷◌, [], List, Option, Some, None, ap, sym, ◌∙◌, subst, refl}
 use Rattle.qualified_goals.specs.declared.variable.Var.{Var}
 use Rattle.choice_problem.specs.Active.{is_open}

@@ -1,4 +1,4 @@
--- the last node is cut off, and the one below is at its value
+-- the last node is removed, and the value of the node before has failed
 use Rattle.std.proofs.Common.{◌≡◌, None, suc, length, ap, sym, ◌∙◌, subst}
 use Rattle.choice_problem.specs.Trail.{value_in}
 use Rattle.backjump.specs.Walk.{nodes_of}

@@ -1,4 +1,4 @@
--- the search gives up, or hands on the set of the last node
+-- the search reaches its limit, or leaves the last node with its set
 use Rattle.std.proofs.Common.{◌∷◌, sym, ◌∙◌, subst}
 use Rattle.std.proofs.lemmas.Result.{IfOk-weaker}
 use Rattle.backjump.specs.Walk.{search_of, Exhausts}

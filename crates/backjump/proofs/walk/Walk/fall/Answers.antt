@@ -1,4 +1,4 @@
--- the set is kept at the last node, or handed on
+-- the set stays at the last node, or leaves it
 use Rattle.std.proofs.Common.{◌≡◌, ◌+◌, arith, sym, ap, ◌∙◌}
 use Rattle.std.proofs.lemmas.Result.{IfOk-weaker}
 use Rattle.choice_problem.specs.ConflictSet.{has}

@@ -1,4 +1,4 @@
--- the variable that the guide picks gets a node, or none is open and the trail is whole
+-- the variable that the guide picks gets a node, or none is open and the trail is complete
 use Rattle.std.proofs.Common.{◌++◌, ◌∷◌, [], ap, sym, ◌∙◌}
 use Rattle.choice_problem.specs.Active.{open_in}
 use Rattle.validation.proofs.NextViews.{known-open}

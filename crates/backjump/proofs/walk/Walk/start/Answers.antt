@@ -1,4 +1,4 @@
--- no point stands for no choice
+-- at the start there are no points and no choices
 use Rattle.std.proofs.Common.{refl}
 use Rattle.backjump.specs.Walk.{search_of}
 use Rattle.backjump.proofs.Moves.{start-at}
