@@ -1,4 +1,4 @@
--- What the outcome of a search that counts conflicts means.
+-- The meaning of an outcome of the search that counts conflicts.
 use Rattle.std.proofs.Common.{◌≡◌, ℕ, refl, sym, ap, ◌∙◌, subst}
 use Rattle.plan_types.specs.declared.limit.Limit.{Limit}
 use Rattle.plan_types.specs.declared.limit.Limit.TheVariants.{Unlimited, At}

@@ -1,4 +1,4 @@
--- The order of ranks, and what a set of them in that order has.
+-- The order of ranks, and the members of a set in that order.
 use Rattle.std.proofs.Common.{◌≡◌, ℕ, ◌<◌, Bool, true, false, cond, ◌||◌, List, [], ◌∷◌, Some, None, refl, sym, ap, ◌∙◌, subst, inl, inr, ◌⊎◌, nat_lt, ltb-true, rules, ◌==◌, map, find}
 use Rattle.std.specs.List.{list_any, AllByRecursion}
 use Rattle.std.specs.List.Sorted.{IsStrictlySortedBy}
@@ -16,7 +16,7 @@ use Rattle.count_search.specs.declared.ranks.Rank.{Rank}
 use Rattle.count_search.specs.Ranks.{rank_cmp, same_rank, has_rank}
 use Rattle.count_search.specs.contracts.ranks.RankOrd.TheImpl.{cmp-value}
 
--- two tests that hold together are one
+-- two tests that imply each other are equal
 pub both-ways : (a b : Bool) → (a ≡ true → b ≡ true) → (b ≡ true → a ≡ true) → a ≡ b
 both-ways true b h k = sym (h refl)
 both-ways false true h k = k refl
@@ -29,7 +29,7 @@ either false b h = inr h
 pub derived : (r q : Rank) → cmp-value.it r q ≡ rank_cmp r q
 derived r q = search rules
 
--- what the derived order finds
+-- the members by the derived order
 abbrev pub found_in : List Rank → Rank → Bool
 found_in ranks r = list_any (λ q. is_eq (cmp-value.it r q)) ranks
 
@@ -37,7 +37,7 @@ pub stored : (ranks : List Rank) (r : Rank) → found_in ranks r ≡ has_rank ra
 stored [] r = refl
 stored (q ∷ ranks) r = ap (λ o. is_eq o || list_any (λ x. is_eq (cmp-value.it r x)) ranks) (derived r q) ∙ ap (λ b. same_rank r q || b) (stored ranks r)
 
--- ranks that compare alike are one
+-- ranks that compare as equal are equal
 
 then-first : (a b : Ordering) → ordering_then a b ≡ Equal → a ≡ Equal
 then-first Less b h = h
@@ -54,7 +54,7 @@ same-rank-is r q h =
 pub same-rank-refl : (r : Rank) → same_rank r r ≡ true
 same-rank-refl r = ap (λ o. is_eq (ordering_then o (var_cmp r.var r.var))) (tied_itself nat_cmp_total r.rest) ∙ same_var-refl r.var
 
--- the lesser of two ranks was met more often, or as often and has the lesser variable
+-- the lesser of two ranks has the greater score, or the same score and the lesser variable
 
 less-is : (m n : ℕ) → nat_cmp m n ≡ Less → m < n
 less-is m n h =
@@ -75,7 +75,7 @@ rank-less r q h =
       | inr e ↦ inr (exact_unsigned r.rest q.rest e.0, ap is_lt e.1)
     ]
 
--- the first of some ranks that passes a test
+-- the first rank that passes a test
 
 less-as : (r : Rank) (ranks : List Rank) → AllByRecursion (λ y. cmp-value.it r y ≡ Less) ranks → AllByRecursion (λ y. rank_cmp r y ≡ Less) ranks
 less-as r [] h = h
@@ -94,7 +94,7 @@ less-than r (x ∷ ranks) q h k =
       | inr later ↦ less-than r ranks q h.1 later
     ]
 
--- a rank of these, with the variable that was found, before all others that pass
+-- a member with the variable found, before all others that pass
 pub record IsFirstRank (test : Var → Bool) (ranks : List Rank) (v : Var) : Type 0 where
   pub rank : Rank
   pub member : has_rank ranks rank ≡ true

@@ -1,4 +1,4 @@
--- The variable that was met most often is the first of the ranked ones that is open, or where none is, the least.
+-- The variable picked is the first ranked one that is open, or the least open one where none is.
 use Rattle.std.proofs.Common.{◌≡◌, ℕ, ◌-◌, ◌<◌, ◌≤◌, true, false, cond, List, [], ◌∷◌, Some, None, refl, sym, ap, ◌∙◌, subst, inl, inr, ◌⊎◌, arith, nat_lt, lt-ltb, ltb-true, ltb-false, map, find}
 use Rattle.std.specs.List.Sorted.{IsStrictlySortedBy}
 use Rattle.std.proofs.lemmas.Bool.{false≢true, or_left, or_right}
@@ -21,7 +21,7 @@ use Rattle.count_search.specs.Ranks.{rank_cmp, has_rank, rank_of, AreScored}
 use Rattle.count_search.proofs.Orders.{either, rank-less, first-rank, none-first}
 use Rattle.count_search.proofs.Scores.{member-ranked, ranked-member, one-or-other}
 
--- a variable was met less often than another one, or as often and doesn't stand before it
+-- a variable has a lesser score than another one, or the same score and isn't before it
 abbrev pub IsAtMost : List (List Var) → Var → Var → Type 0
 IsAtMost met u v = (score met u < score met v) ⊎ ((score met u ≡ score met v) × (is_before u v ≡ false))
 
@@ -72,7 +72,7 @@ module _ (p : Problem) (met : List (List Var)) (trail : List Choice) (table : Li
   unfolding open_vars
   open-rising = rising-set_of (targets_open trail (demands_after (general p) trail))
 
-  -- an open variable that was met has its rank
+  -- an open variable with a score above 0 has its rank
   open-ranked : (u : Var) → is_open p trail u ≡ true → 0 < score met u → has_rank ranks (rank_of (score met u) u) ≡ true
   open-ranked u opens more =
       ranked-member table ranks (score met) trail are (rank_of (score met u) u)

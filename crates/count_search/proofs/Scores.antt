@@ -1,4 +1,4 @@
--- How often each variable was met, by what is put into the ranks and taken out of them.
+-- Scores, as ranks are added and removed.
 use Rattle.std.proofs.Common.{◌≡◌, ℕ, ◌+◌, ◌-◌, ◌<◌, min, length, take, get_or, zero, suc, filter, Bool, true, false, cond, not, ◌||◌, ◌&&◌, List, [], ◌∷◌, ◌++◌, Some, None, Result, Ok, Err, OnErr, is_none, is_some, refl, sym, ap, ◌∙◌, subst, inl, inr, ◌⊎◌, arith, nat_lt, nat_eq, lt-ltb, ltb-true, eq-eqb, eqb-true}
 use Rattle.std.specs.Option.{unwrap_or}
 use Rattle.std.specs.Result.{is_err}
@@ -21,7 +21,7 @@ use Rattle.count_search.specs.declared.ranks.Rank.{Rank}
 use Rattle.count_search.specs.Ranks.{same_rank, has_rank, rank_of, is_ranked, met_by, AreScored, AreBetween, raised, raised_all}
 use Rattle.count_search.proofs.Orders.{both-ways, either, same-rank-is, same-rank-refl}
 
--- a rank of a variable that was met and isn't chosen
+-- the rank of a variable with a score above 0 that isn't chosen
 pub record Ranked (scores : Var → ℕ) (trail : List Choice) (r : Rank) : Type 0 where
   pub met : 0 < scores r.var
   pub rest : r.rest ≡ cap - scores r.var
@@ -43,14 +43,14 @@ pub its-rank : (scores : Var → ℕ) (trail : List Choice) (r : Rank) (v : Var)
 its-rank scores trail r v ranked e =
     ap (λ n. record { rest = n; var = r.var }) ranked.rest ∙ ap (λ w. record { rest = cap - scores w; var = w }) e
 
--- whether two variables are one
+-- two variables are the same or not
 pub one-or-other : (v w : Var) → (v ≡ w) ⊎ (same_var v w ≡ false)
 one-or-other v w = elim (same_var v w) as (λ b. same_var v w ≡ b → (v ≡ w) ⊎ (b ≡ false)) [ true ↦ λ e. inl (same_var-is v w e) | false ↦ λ e. inr refl ] refl
 
 pub apart : (v w : Var) → same_var v w ≡ false → v ≡ w → ⊥
 apart v w h e = false≢true (sym h ∙ ap (same_var v) (sym e) ∙ same_var-refl v)
 
--- what is set in a table
+-- a table with one entry set
 
 module _ (table later : List (Var × ℕ)) (v : Var) (n : ℕ) (set : (u : Var) → entry later u ≡ with_entry v n (entry table) u) where
   pub set-met : (u : Var) → met_by later u ≡ cond (same_var v u) n (met_by table u)
@@ -58,7 +58,7 @@ module _ (table later : List (Var × ℕ)) (v : Var) (n : ℕ) (set : (u : Var) 
       ap (λ o. unwrap_or o 0) (set u)
       ∙ elim (same_var v u) as (λ b. unwrap_or (cond b (Some n) (entry table u)) 0 ≡ cond b n (unwrap_or (entry table u) 0)) [ true ↦ refl | false ↦ refl ]
 
-  -- the number that the table gave already changes nothing
+  -- setting the number that the table has already changes nothing
   pub set-same : n ≡ met_by table v → (u : Var) → met_by later u ≡ met_by table u
   set-same is u =
       set-met u ∙ elim (one-or-other v u) [
@@ -66,7 +66,7 @@ module _ (table later : List (Var × ℕ)) (v : Var) (n : ℕ) (set : (u : Var) 
         | inr other ↦ ap (λ b. cond b n (met_by table u)) other
       ]
 
-  -- what has no entry is another variable, and had none
+  -- a variable without an entry is another one, and had none
   pub set-none : (u : Var) → entry later u ≡ None → (u ≡ v → ⊥) × (entry table u ≡ None)
   set-none u h =
       elim (same_var v u) as (λ b. same_var v u ≡ b → cond b (Some n) (entry table u) ≡ None → (u ≡ v → ⊥) × (entry table u ≡ None)) [
@@ -74,7 +74,7 @@ module _ (table later : List (Var × ℕ)) (v : Var) (n : ℕ) (set : (u : Var) 
         | false ↦ λ e k. (λ same. apart v u e (sym same), k)
       ] refl (sym (set u) ∙ h)
 
--- a choice more
+-- one more choice
 
 still-free : (trail : List Choice) (c : Choice) (w : Var) → value_in trail w ≡ None → (c.var ≡ w → ⊥) → value_in (trail ++ c ∷ []) w ≡ None
 still-free trail c w free other =
@@ -88,7 +88,7 @@ taken trail c w k free =
     false≢true (sym (ap is_some free) ∙ ap (λ u. is_some (value_in (trail ++ c ∷ []) u)) (sym k)
     ∙ value_in-some (trail ++ c ∷ []) c (contains-right trail (c ∷ []) c (contains-head c [])))
 
--- a variable that was met once more
+-- a variable with one more in its score
 
 module _ (v : Var) (scores : Var → ℕ) where
   pub raised-at : raised v scores v ≡ min (scores v + 1) cap
@@ -113,7 +113,7 @@ module _ (v : Var) (scores : Var → ℕ) where
     | inr other ↦ raised-off u (λ e. apart v u other (sym e))
   ]
 
--- scores that are one at the variable of a rank
+-- scores that are equal at the variable of a rank
 pub alike : (f g : Var → ℕ) (trail : List Choice) (r : Rank) → g r.var ≡ f r.var → Ranked f trail r → Ranked g trail r
 alike f g trail r e ranked = record {
   met = subst (λ n. 0 < n) (sym e) ranked.met;
@@ -121,7 +121,7 @@ alike f g trail r e ranked = record {
   free = ranked.free;
 }
 
--- a rank that is put in, or taken out
+-- a rank added or removed
 
 other-rank : (n : ℕ) (v : Var) (r : Rank) → (r.var ≡ v → ⊥) → same_rank (rank_of n v) r ≡ false
 other-rank n v r other =
@@ -130,7 +130,7 @@ other-rank n v r other =
       | false ↦ λ e. refl
     ] refl
 
--- scores of one variable that differ have different ranks
+-- different scores of one variable have different ranks
 other-score : (n : ℕ) (v : Var) (f : Var → ℕ) (trail : List Choice) (r : Rank) → Ranked f trail r → (cap - n ≡ cap - f v → ⊥) → same_rank (rank_of n v) r ≡ false
 other-score n v f trail r ranked differ =
     elim (same_rank (rank_of n v) r) as (λ b. same_rank (rank_of n v) r ≡ b → b ≡ false) [
@@ -150,7 +150,7 @@ module _ (table : List (Var × ℕ)) (ranks : List Rank) (scores : Var → ℕ) 
   pub ranked-member : (r : Rank) → Ranked scores trail r → has_rank ranks r ≡ true
   ranked-member r h = are.ranked r ∙ is-ranked scores trail r h
 
-  -- the rank of one variable is taken out: it is chosen
+  -- the rank of one variable is removed, as it is chosen
   module _ (v : Var) (new : List Rank) (dropped : (r : Rank) → has_rank new r ≡ not (same_rank (rank_of (scores v) v) r) && has_rank ranks r) where
     left-is : (r : Rank) → has_rank new r ≡ true → Ranked scores trail r × (r.var ≡ v → ⊥)
     left-is r h =
@@ -178,9 +178,9 @@ module _ (table : List (Var × ℕ)) (ranks : List Rank) (scores : Var → ℕ) 
           (λ k. taken trail c r.var (e ∙ sym k) ranked.free));
     }
 
--- on the way from some scores to the next
+-- between old scores and the next
 
--- what has the ranks of both has those that the tests of both pass
+-- a set with the ranks of both has those that pass either test
 ranked-by-both : (ranks : List Rank) (scores next : Var → ℕ) (trail : List Choice) → ((r : Rank) → has_rank ranks r ≡ true → Ranked scores trail r ⊎ Ranked next trail r)
     → ((r : Rank) → Ranked scores trail r → has_rank ranks r ≡ true) → ((r : Rank) → Ranked next trail r → has_rank ranks r ≡ true)
     → (r : Rank) → has_rank ranks r ≡ is_ranked scores trail r || is_ranked next trail r
@@ -195,7 +195,7 @@ ranked-by-both ranks scores next trail to first second r =
       | inr b ↦ second r (ranked-is next trail r b)
     ])
 
--- where the next scores are the same the ranks are those of one
+-- where the next scores are the old ones, the ranks are those of the scores
 pub between-none : (table : List (Var × ℕ)) (ranks : List Rank) (scores : Var → ℕ) (trail : List Choice) → AreScored table ranks scores trail → AreBetween table ranks scores scores trail
 between-none table ranks scores trail are = record {
   counted = are.counted;
@@ -281,7 +281,7 @@ module _ (table : List (Var × ℕ)) (ranks : List Rank) (scores next : Var → 
               (of-next r (alike (raised v next) next trail r (sym (raised-off v next r.var (apart r.var v other))) b))
         ]))
 
-  -- a variable gets its next score, and its old rank is taken out
+  -- a variable gets its next score, and its old rank is removed
   pub raised-more : (v : Var) (n : ℕ) (later : List (Var × ℕ)) (last : List Rank) → n ≡ met_by table v → n < cap → next v ≡ raised v scores v
       → ((u : Var) → entry later u ≡ with_entry v (n + 1) (entry table) u) → ((r : Rank) → has_rank last r ≡ not (same_rank (rank_of n v) r) && has_rank ranks r)
       → AreBetween later last (raised v scores) next trail
@@ -318,13 +318,13 @@ module _ (table : List (Var × ℕ)) (ranks : List Rank) (scores next : Var → 
         ready = λ u none. let was = set-none table later v (n + 1) set u none in are.ready u was.1 ∙ sym (raised-off v scores u was.0);
       }
 
-  -- a variable that is to be raised has its entry
+  -- a variable whose score rises has its entry
   pub has-entry : (v : Var) → next v ≡ raised v scores v → entry table v ≡ None → ⊥
   has-entry v rises none =
       let zero : scores v ≡ 0 = sym (are.counted v) ∙ ap (λ o. unwrap_or o 0) none in
       omega (arith, zero, are.ready v none, rises, raised-at v scores)
 
--- the next rank of a variable is taken out again
+-- the next rank of a variable is removed again
 module _ (table : List (Var × ℕ)) (ranks : List Rank) (scores next : Var → ℕ) (trail : List Choice) (v : Var) (same : next v ≡ scores v) (are : AreBetween table ranks scores (raised v next) trail) where
   back-ready : (u : Var) → entry table u ≡ None → next u ≡ scores u
   back-ready u none = elim (one-or-other u v) [
@@ -366,7 +366,7 @@ module _ (table : List (Var × ℕ)) (ranks : List Rank) (scores next : Var → 
         ready = back-ready;
       }
 
--- the last choice is taken back
+-- the last choice is undone
 
 module _ (table : List (Var × ℕ)) (ranks : List Rank) (scores : Var → ℕ) (front : List Choice) (c : Choice) (new : value_in front c.var ≡ None)
     (are : AreScored table ranks scores (front ++ c ∷ [])) where
@@ -379,7 +379,7 @@ module _ (table : List (Var × ℕ)) (ranks : List Rank) (scores : Var → ℕ) 
   member : (r : Rank) → has_rank ranks r ≡ true → Ranked scores front r
   member r h = earlier r (member-ranked table ranks scores (front ++ c ∷ []) are r h)
 
-  -- its variable was met
+  -- its variable has a score above 0
   pub scored-back : (n : ℕ) (now : List Rank) → n ≡ scores c.var → 0 < n → ((r : Rank) → has_rank now r ≡ same_rank (rank_of n c.var) r || has_rank ranks r)
       → AreScored table now scores front
   scored-back n now n-is met put =
@@ -401,7 +401,7 @@ module _ (table : List (Var × ℕ)) (ranks : List Rank) (scores : Var → ℕ) 
             ]);
       }
 
-  -- it wasn't
+  -- its variable has the score 0
   pub scored-still : scores c.var ≡ 0 → AreScored table ranks scores front
   scored-still never = record {
     counted = are.counted;
@@ -415,7 +415,7 @@ module _ (table : List (Var × ℕ)) (ranks : List Rank) (scores : Var → ℕ) 
 pub is-free : (trail : List Choice) (v : Var) → is_some (value_in trail v) ≡ false → value_in trail v ≡ None
 is-free trail v h = elim (value_in trail v) as (λ o. is_some o ≡ false → o ≡ None) [ None ↦ λ k. refl | Some n ↦ λ k. absurd (false≢true (sym k)) ] h
 
--- a whole set was met
+-- each variable of a set has one more in its score
 
 pub raised_all-push : (vars : List Var) (v : Var) (scores : Var → ℕ) → raised_all (vars ++ v ∷ []) scores ≡ raised v (raised_all vars scores)
 raised_all-push [] v scores = refl
@@ -450,7 +450,7 @@ one-more set met u =
 pub raised-set : (set : List Var) (met : List (List Var)) (u : Var) → is_rising set ≡ true → raised_all set (score met) u ≡ score (set ∷ met) u
 raised-set set met u h = raised_all-is set (score met) u h ∙ one-more set met u
 
--- what holds where a call fails
+-- a clause on failure holds where a call fails
 pub err-where : {T E : Type 0} {P : Type 0} (r : Result T E) → OnErr r P → is_err r ≡ true → P
 err-where (Ok t) h k = absurd (false≢true k)
 err-where (Err e) h k = h
@@ -459,7 +459,7 @@ pub positive : (n : ℕ) → (n ≡ 0 → ⊥) → 0 < n
 positive zero h = absurd (h refl)
 positive (suc n) h = omega arith
 
--- with the ranks that it had
+-- the scores with the old ranks
 pub scored-ranks : (table : List (Var × ℕ)) (ranks last : List Rank) (scores : Var → ℕ) (trail : List Choice) → last ≡ ranks → AreScored table ranks scores trail → AreScored table last scores trail
 scored-ranks table ranks last scores trail e are = subst (λ l. AreScored table l scores trail) (sym e) are
 
@@ -480,7 +480,7 @@ before-raised (w ∷ vars) h f (suc k) d l =
     (λ e. apart w (get_or vars k d) (before-not-same w (get_or vars k d) (rising-below w vars (get_or vars k d) h (Contains-get_or vars k d (omega (arith, l))))) (sym e))
 
 module _ (vars : List Var) (rising : is_rising vars ≡ true) (scores : Var → ℕ) (i : ℕ) (d : Var) (within : i < length vars) where
-  -- those before it don't raise it
+  -- the variables before it don't raise its score
   pub not-yet : raised_all (take i vars) scores (get_or vars i d) ≡ scores (get_or vars i d)
   not-yet = before-raised vars rising scores i d within
 
@@ -489,7 +489,7 @@ module _ (vars : List Var) (rising : is_rising vars ≡ true) (scores : Var → 
       let next : i + 1 ≡ suc i = omega arith in
       ap (λ n. raised_all (take n vars) scores) next ∙ ap (λ l. raised_all l scores) (take-suc vars i d within) ∙ raised_all-push (take i vars) (get_or vars i d) scores
 
-  -- it is raised once by the whole set
+  -- the whole set raises its score once
   pub next-score : raised_all vars scores (get_or vars i d) ≡ raised (get_or vars i d) (raised_all (take i vars) scores) (get_or vars i d)
   next-score =
       let v = get_or vars i d in

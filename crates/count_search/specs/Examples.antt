@@ -1,4 +1,4 @@
--- Ranks of some variables, computed.
+-- Ranks of variables, computed.
 use Rattle.std.specs.Prelude.{◌≡◌, ℕ, true, false, [], ◌∷◌, refl}
 use Rattle.qualified_goals.specs.declared.variable.Qual.TheVariants.{Top}
 use Rattle.qualified_goals.specs.declared.variable.Part.TheVariants.{Package}
@@ -10,7 +10,7 @@ use Rattle.count_search.specs.Ranks.{rank_of, is_ranked, raised_all}
 abbrev var : ℕ → Var
 var n = record { qual = Top; «package» = n; part = Package }
 
--- in the set of 1 and 2, and then in that of 2
+-- the scores after the set of 1 and 2, and then that of 2
 abbrev scores : Var → ℕ
 scores = score ((var 2 ∷ []) ∷ (var 1 ∷ var 2 ∷ []) ∷ [])
 

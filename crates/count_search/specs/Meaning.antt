@@ -1,4 +1,4 @@
--- What the outcome of a search that counts conflicts means.
+-- The meaning of an outcome of the search that counts conflicts.
 use Rattle.std.specs.Prelude.{◌≡◌, ℕ}
 use Rattle.plan_types.specs.declared.limit.Limit.{Limit}
 use Rattle.plan_types.specs.declared.limit.Limit.TheVariants.{At}
@@ -10,7 +10,7 @@ use Rattle.choice_problem.specs.Trail.{AreNew, value_in}
 use Rattle.choice_problem.specs.Valid.{IsWholeValid}
 use Rattle.choice_problem.specs.Sound.{AreNone}
 
--- a trail names each variable once, and is as a map whole and valid; a set admits none, and there is none at all; or there is a limit
+-- found: a complete, valid assignment with each variable once; no plan: the set admits none; given up: there is a limit
 abbrev pub MeansCounted : Problem → Limit → Outcome → Type 0
 MeansCounted p limit (Found trail counts) = AreNew trail × IsWholeValid (general p) (value_in trail)
 MeansCounted p limit (NoPlan set counts) = AreNone p set

@@ -1,4 +1,4 @@
--- Ranks of variables: what was met most often comes first, and of those that were met as often the least.
+-- Ranks of variables: ordered by falling score, equal ones by variable.
 use Rattle.std.specs.Prelude.{◌≡◌, ℕ, ◌+◌, ◌-◌, min, nat_lt, nat_eq, Bool, cond, ◌&&◌, ◌||◌, List, [], ◌∷◌, Option, None, is_none}
 use Rattle.std.specs.Option.{unwrap_or}
 use Rattle.std.specs.List.{list_any}
@@ -16,43 +16,43 @@ use Rattle.count_search.specs.declared.ranks.Rank.{Rank}
 abbrev pub rank_cmp : Rank → Rank → Ordering
 rank_cmp r q = ordering_then (nat_cmp r.rest q.rest) (var_cmp r.var q.var)
 
--- whether two ranks are one
+-- whether two ranks are equal
 abbrev pub same_rank : Rank → Rank → Bool
 same_rank r q = is_eq (rank_cmp r q)
 
--- whether a rank is one of these
+-- whether a rank is in the list
 abbrev pub has_rank : List Rank → Rank → Bool
 has_rank ranks r = list_any (λ q. is_eq (rank_cmp r q)) ranks
 
--- the rank of a variable that was met so often
+-- the rank of a variable with this score
 abbrev pub rank_of : ℕ → Var → Rank
 rank_of score v = record { rest = cap - score; var = v }
 
--- a variable that was met has its rank as long as it isn't chosen
+-- whether the rank is that of a variable with a score above 0 that isn't chosen
 abbrev pub is_ranked : (Var → ℕ) → List Choice → Rank → Bool
 is_ranked scores trail r = nat_lt 0 (scores r.var) && (nat_eq r.rest (cap - scores r.var) && is_none (value_in trail r.var))
 
--- how often a variable was met, by a table that may lack it
+-- the score of a variable in a table, 0 where the table lacks it
 abbrev pub met_by : List (Var × ℕ) → Var → ℕ
 met_by table v = unwrap_or (entry table v) 0
 
--- a table and ranks say how often each variable was met
+-- the table has the scores, and the ranks are those of scored variables that aren't chosen
 pub record AreScored (table : List (Var × ℕ)) (ranks : List Rank) (scores : Var → ℕ) (trail : List Choice) : Type 0 where
   pub counted : (v : Var) → met_by table v ≡ scores v
   pub ranked : (r : Rank) → has_rank ranks r ≡ is_ranked scores trail r
 
--- on the way from some scores to the next: the table has the first ones, the ranks are those of both, and the table has an
+-- between old scores and the next: the table has the old ones, the ranks are those of both, and the table has an
 -- entry for each variable whose score is to rise
 pub record AreBetween (table : List (Var × ℕ)) (ranks : List Rank) (scores next : Var → ℕ) (trail : List Choice) : Type 0 where
   pub counted : (v : Var) → met_by table v ≡ scores v
   pub ranked : (r : Rank) → has_rank ranks r ≡ is_ranked scores trail r || is_ranked next trail r
   pub ready : (v : Var) → entry table v ≡ None → next v ≡ scores v
 
--- a variable was met once more
+-- the scores with one more for a variable, up to cap
 abbrev pub raised : Var → (Var → ℕ) → Var → ℕ
 raised v scores u = cond (same_var v u) (min (scores u + 1) cap) (scores u)
 
--- each of some variables, one after another
+-- the same for several variables, one after another
 abbrev pub raised_all : List Var → (Var → ℕ) → Var → ℕ
 raised_all [] scores = scores
 raised_all (v ∷ vars) scores = raised_all vars (raised v scores)

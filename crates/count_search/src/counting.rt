@@ -1,4 +1,4 @@
-// How often each variable was in a conflict set, and which open one was so most often.
+// Scores of variables by conflict sets, and the open variable with the greatest one.
 ghost use Rattle.std.specs.Prelude.{◌≡◌, ◌≤◌, ℕ, List, [], IsTrue, OnOk, OnErr, is_some, find, length, map, take};
 ghost use Rattle.std.specs.List.Sorted.{IsStrictlySortedBy};
 ghost use Rattle.qualified_goals.specs.declared.variable.Var.{Var};
@@ -20,11 +20,11 @@ use std::alloc::Global;
 use std::collections::BTreeSet;
 use validation::State;
 
-/// Picks the open variable that was in the most conflict sets so far, and of those the least.
+/// Picks the open variable with the greatest score, of equals the least. A score counts the conflict sets so far.
 pub struct Counting {
-    // In how many sets each variable was. A variable that it lacks was in none.
+    // The number of sets with each variable. A variable that isn't there has 0.
     scores: Table,
-    // The variables that were in some set and aren't chosen.
+    // The ranks of the variables that were in a set and aren't chosen.
     ranks: BTreeSet<Rank>,
 }
 
@@ -39,7 +39,7 @@ impl Drop for Counting {
 }
 
 impl Counting {
-    /// A guide that was told of no set.
+    /// A guide without conflict sets.
     pub fn new(alloc: Global) -> Counting
         ensures { AreScored result.scores result.ranks.keys (spec.score []) [] }
     {
@@ -49,7 +49,7 @@ impl Counting {
         }
     }
 
-    // In how many sets a variable was.
+    // The number of sets with a variable.
     fn score(&self, v: Var) -> u64
         ensures { result ≡ met_by self.now.scores v }
     {
@@ -57,8 +57,8 @@ impl Counting {
     }
 }
 
-// A set is met in two steps. The first takes all memory: each of its variables gets an entry, and its next rank beside
-// the one that it has. The second raises the scores and takes the old ranks out.
+// A set is added in two steps. The first allocates all memory: each of its variables gets an entry, and its next rank
+// besides its old one. The second raises the scores and removes the old ranks.
 impl Counting {
     // The first step for one variable.
     fn prepare(&mut self, v: Var, chosen: bool) -> Result<(), NoMemory>
@@ -77,7 +77,7 @@ impl Counting {
         put(&mut self.ranks, rank_of(score.saturating_add(1), v))
     }
 
-    // The first step for one variable taken back.
+    // Undoes the first step for one variable.
     fn withdraw(&mut self, v: Var)
         ensures { (scores next : Var → ℕ) (trail : List Choice) → next v ≡ scores v
             → AreBetween self.old.scores self.old.ranks.keys scores (raised v next) trail
@@ -100,14 +100,14 @@ impl Counting {
         if score == u64::MAX {
             return;
         }
-        // It has its entry, so that this takes no memory.
+        // The entry is there, so this allocates no memory.
         let _ = self.scores.set(v, score + 1);
         take_out(&mut self.ranks, rank_of(score, v));
     }
 }
 
 impl Counting {
-    // The first step for the variables of a set. Where memory is wanting it is taken back.
+    // The first step for the variables of a set. It is undone when out of memory.
     fn prepare_all(&mut self, vars: &[Var], trail: &Trail) -> Result<(), NoMemory>
         requires { IsTrue (is_rising vars.now) }
         ensures ok { OnOk result ((scores : Var → ℕ) → AreScored self.old.scores self.old.ranks.keys scores trail.now
@@ -125,7 +125,7 @@ impl Counting {
         Ok(())
     }
 
-    // The first step for the first variables of a set taken back.
+    // Undoes the first step for the first `count` variables of a set.
     fn withdraw_first(&mut self, vars: &[Var], count: usize)
         requires rising { IsTrue (is_rising vars.now) }
         requires within { count ≤ length vars.now }
@@ -153,7 +153,7 @@ impl Counting {
     }
 }
 
-// The first of the ranked variables that is open.
+// The first ranked variable that is open.
 fn first_open(ranks: &BTreeSet<Rank>, state: &State) -> Option<Var>
     ensures sorted { IsStrictlySortedBy rank_cmp ranks.now.keys }
     ensures first { (p : Problem) → Lawful p → Represents p state.now

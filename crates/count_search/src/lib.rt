@@ -1,5 +1,6 @@
-//! The search that counts conflicts: at each point it tries the open variable that was in the most conflict sets so
-//! far, the least in goal order among equals. What it finds is whole and valid, and needn't be the first.
+//! The search that counts conflicts. At each point it tries the open variable with the greatest score: the number of
+//! conflict sets so far that have it. Of equals it tries the least. Its plan is complete and valid, but needn't be the
+//! first.
 #![tactic(auto)]
 
 mod counting;

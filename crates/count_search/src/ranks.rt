@@ -1,4 +1,4 @@
-// Variables in the order of how often they were met.
+// Ranks of variables, the greatest score first.
 ghost use Rattle.std.specs.Prelude.{◌≡◌, ◌||◌, ◌&&◌, not, OnOk, OnErr};
 ghost use Rattle.count_search.specs.Ranks.{rank_of, same_rank, has_rank};
 
@@ -6,8 +6,8 @@ use choice_problem::Var;
 use plan_types::NoMemory;
 use std::collections::BTreeSet;
 
-/// A variable, and how many sets more would make its count stand still. So what was met most often comes first, and of
-/// those that were met as often the least.
+/// A variable, and the difference of 2^64 - 1 and its score. So the derived order has the greatest score first, and of
+/// equal scores the least variable.
 #[derive(Clone, Copy, Debug, Drop, PartialEq, Eq, PartialOrd, Ord)]
 pub struct Rank {
     pub rest: u64,
@@ -34,7 +34,7 @@ pub(crate) fn put(ranks: &mut BTreeSet<Rank>, rank: Rank) -> Result<(), NoMemory
     }
 }
 
-/// Takes a rank out, where it is there. It takes no memory.
+/// Removes a rank, if it is there. It allocates no memory.
 pub(crate) fn take_out(ranks: &mut BTreeSet<Rank>, rank: Rank)
     ensures { (r : Rank) → has_rank ranks.new.keys r ≡ (not (same_rank rank r) && has_rank ranks.old.keys r) }
 {

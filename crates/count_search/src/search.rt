@@ -11,8 +11,8 @@ use plan_types::NoMemory;
 use std::alloc::Global;
 use std::sync::ledger::Ledger;
 
-/// Searches a problem, trying the values of the open variable that was in the most conflict sets so far. Each try is
-/// counted by `steps`.
+/// Searches a problem by the open variables that were in the most conflict sets so far.
+/// `steps` counts each try.
 pub fn count_search<C: Choices, L: Ledger>(
     alloc: Global,
     choices: &C,

@@ -1,4 +1,4 @@
--- the first that is open is the first of those that are left
+-- the first open one is the first of the rest
 use Rattle.std.proofs.Common.{◌≡◌, map, find}
 use Rattle.choice_problem.specs.Problem.{Problem, Lawful}
 use Rattle.choice_problem.specs.Active.{is_open}

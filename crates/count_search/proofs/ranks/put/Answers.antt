@@ -1,4 +1,4 @@
--- the set has the rank, and what it had
+-- the set has the rank, and its old members
 use Rattle.std.proofs.Common.{◌≡◌, Bool, true, false, cond, ◌||◌, refl, sym, ap, ◌∙◌}
 use Rattle.std.specs.Ordering.{is_eq}
 use Rattle.count_search.specs.Ranks.{same_rank, has_rank}

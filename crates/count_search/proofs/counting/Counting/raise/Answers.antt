@@ -1,4 +1,4 @@
--- the variable has its next score, and its old rank is out
+-- the variable has its next score, and its old rank is removed
 use Rattle.std.proofs.Common.{not, ◌&&◌, refl, sym, ap, ◌∙◌, arith}
 use Rattle.count_search.specs.Ranks.{has_rank, same_rank, raised}
 use Rattle.choice_problem.proofs.InfallibleCalls.{ok-of}

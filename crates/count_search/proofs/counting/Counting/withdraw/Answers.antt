@@ -1,4 +1,4 @@
--- the next rank of the variable is out
+-- the next rank of the variable is removed
 use Rattle.std.proofs.Common.{not, ◌&&◌, refl, sym, ap, ◌∙◌, arith}
 use Rattle.count_search.specs.Ranks.{has_rank, same_rank}
 use Rattle.count_search.proofs.Scores.{between-alike, raised-full, withdrawn}

@@ -1,4 +1,4 @@
--- the variables that are left have their next ranks
+-- the rest of the variables have their next ranks
 use Rattle.std.proofs.Common.{ℕ, ◌≤◌, List, take}
 use Rattle.qualified_goals.specs.declared.variable.Var.{Var}
 use Rattle.choice_problem.specs.declared.problem.Choice.{Choice}

@@ -1,4 +1,4 @@
--- the rank of the variable is out
+-- the rank of the variable is removed
 use Rattle.std.proofs.Common.{not, ◌&&◌, ◌∙◌, ap}
 use Rattle.choice_problem.specs.Guide.{score}
 use Rattle.count_search.specs.Ranks.{has_rank, same_rank, rank_of}

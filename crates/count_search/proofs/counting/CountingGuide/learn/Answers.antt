@@ -1,4 +1,4 @@
--- each variable of the set is met once more
+-- each variable of the set has one more in its score
 use Rattle.std.proofs.Common.{◌≡◌, true, List, ◌∷◌, subst}
 use Rattle.common_laws.specs.Small.{on-err}
 use Rattle.qualified_goals.specs.declared.variable.Var.{Var}

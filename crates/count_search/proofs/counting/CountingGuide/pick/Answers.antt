@@ -1,4 +1,4 @@
--- the first of the ranked ones that is open, or the least
+-- the first ranked variable that is open, or the least open one
 use Rattle.std.proofs.Common.{sym, ◌∙◌}
 use Rattle.count_search.proofs.Picks.{picked-ranked, picked-least}
 use Rattle.count_search.proofs.counting.CountingGuide.pick.Goals as goal
