@@ -37,11 +37,11 @@ module _ (p : Problem) where
   abbrev Knows : List Var → Type 0
   Knows set = (v : Var) → has set v ≡ true → p.known v ≡ true
 
-  -- each variable that a demand names is
+  -- each variable that a demand names is known
   abbrev Names : Demand → Type 0
   Names d = (v : Var) → Contains (named_by d) v → p.known v ≡ true
 
-  -- what a rule gives is such a set
+  -- each variable of a rule's set is known
   abbrev KnowsSome : Option (List Var) → Type 0
   KnowsSome o = (set : List Var) → o ≡ Some set → Knows set
 
@@ -239,7 +239,7 @@ module _ (p : Problem) (lawful : Lawful p) where
         | GaveUp ↦ λ k i. absurd (cc i)
       ] _ h
 
-  -- whoever picks the variables, and with any limit
+  -- with any guide and any limit
   module _ (guide : _) (is : IsGuide guide) (limit : Limit) (set : List Var) where
     abbrev manner : Manner
     manner = record { guide = guide; limit = limit; jumps = true }

@@ -1,4 +1,4 @@
--- What holds within a set holds in the problem of its variables, and back.
+-- Assignments that hold within a set are those that hold in the problem restricted to it.
 use Rattle.std.proofs.Common.{◌≡◌, true, List, Some, sym, subst, inl, inr}
 use Rattle.std.specs.List.{list_all, Contains}
 use Rattle.std.proofs.lemmas.Bool.{and_from}
@@ -26,7 +26,7 @@ module _ (p : Problem) (set : List Var) (lawful : Lawful p) (are : are_known p s
   abbrev part : Problem
   part = restricted p set
 
-  -- a demand of the part is one of the whole
+  -- a demand of the restricted problem is one of the whole problem
   demand-in-whole : (d : Demand) → IsDemand part d → IsDemand p d
   demand-in-whole d (inl root) = inl (contains-filter (stays_in set) p.roots d root).0
   demand-in-whole d (inr (owner, is, owns)) = inr (owner, choice-in-whole p set are owner is, (contains-filter (stays_in set) (p.demands owner) d owns).0)
@@ -42,7 +42,7 @@ module _ (p : Problem) (set : List Var) (lawful : Lawful p) (are : are_known p s
     stays : (d : Demand) → is_yes A d ≡ true → has set d.target ≡ true → stays_in set d ≡ true
     stays d made target = and_from (has set d.target) (list_all (λ (c : Choice). has set c.var) d.when) target (condition-in d.when made)
 
-    -- a demand of the whole that is Yes, with its target in the set, is one of the part
+    -- a demand of the whole problem that is Yes, with its target in the set, is one of the restricted problem
     demand-in-part : (d : Demand) → IsDemand p d → is_yes A d ≡ true → has set d.target ≡ true → IsDemand part d
     demand-in-part d (inl root) made target = inl (filter-contains (stays_in set) p.roots d root (stays d made target))
     demand-in-part d (inr (owner, is, owns)) made target =
@@ -56,7 +56,7 @@ module _ (p : Problem) (set : List Var) (lawful : Lawful p) (are : are_known p s
         subst (IsDemand (general part)) plain.2
         (demand-general part plain.0 (demand-in-part plain.0 plain.1 (subst (λ x. x.is_yes A ≡ true) (sym plain.2) made) (subst (λ x. has set x.target ≡ true) (sym plain.2) target)))
 
-  -- what holds within the set is whole in the part
+  -- an assignment that holds within the set holds in the restricted problem
   pub holds-in-part : (A : Assignment) → HoldsWithin (general p) (has set) A → HoldsWithin (general part) (has set) A
   holds-in-part A holds = record {
     assignment = record {
@@ -84,7 +84,7 @@ module _ (p : Problem) (set : List Var) (lawful : Lawful p) (are : are_known p s
         (record { demand = request-in-whole s of-s.demand; yes = of-s.yes; inside = of-s.inside }) must;
   }
 
-  -- and back
+  -- the converse
   pub holds-in-whole : (A : Assignment) → HoldsWithin (general part) (has set) A → HoldsWithin (general p) (has set) A
   holds-in-whole A holds =
       let to-part = request-in-part A holds.assignment.inside in
@@ -117,7 +117,7 @@ module _ (p : Problem) (set : List Var) (lawful : Lawful p) (are : are_known p s
   part-lawful : Lawful part
   part-lawful = restricted_lawful p set are lawful
 
-  -- where something holds within the set, no smaller set fails in the part
+  -- where the restricted problem has no plan, the set admits none
   restricted-target : (small : List Var) (r : Request) → IsDemand (general part) r → has small r.target ≡ true → has set r.target ≡ true
   restricted-target small r is h = target-known (general part) r (general-lawful part part-lawful) is
 

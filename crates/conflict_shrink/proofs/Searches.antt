@@ -1,4 +1,4 @@
--- What the end of a search says of its problem, with any limit.
+-- The meaning of a search's end, with any limit.
 use Rattle.std.proofs.Common.{◌≡◌, ◌≢◌, refl, sym, ap, ◌∙◌, subst}
 use Rattle.plan_types.specs.declared.limit.Limit.{Limit}
 use Rattle.plan_types.specs.declared.limit.Limit.TheVariants.{Unlimited}
@@ -14,7 +14,7 @@ use Rattle.choice_problem.proofs.SearchEnds.{ends-valid}
 use Rattle.choice_problem.proofs.SearchLimits.{limit-gives-up}
 use Rattle.conflict_shrink.specs.Restricted.{HasNoPlan}
 
--- a trail that is whole and valid, or that there is none, or that there is a limit
+-- the trail is complete and valid, or none exists, or there is a limit
 abbrev pub Says : Problem → Limit → Ended → Type 0
 Says q limit (Found trail) = AreNew trail × IsWholeValid (general q) (value_in trail)
 Says q limit (Failed set) = HasNoPlan q

@@ -25,7 +25,7 @@ pub has-without : (v : Var) (set : List Var) (u : Var) → has set u ≡ true �
 has-without v set u h other =
     contains-has (without v set) u (filter-contains (λ (w : Var). not (same_var v w)) set u (has-contains set u h) (ap not other))
 
--- the variable itself is gone
+-- the variable itself isn't in the set
 pub without-itself : (v : Var) (set : List Var) → has (without v set) v ≡ false
 without-itself v set =
     elim (has (without v set) v) as (λ b. has (without v set) v ≡ b → b ≡ false) [
@@ -33,12 +33,12 @@ without-itself v set =
       | false ↦ λ h. refl
     ] refl
 
--- a smaller set is smaller without a variable too
+-- a subset stays one when both lose a variable
 pub without-part : (v : Var) (small large : List Var) → ((u : Var) → has small u ≡ true → has large u ≡ true)
     → (u : Var) → has (without v small) u ≡ true → has (without v large) u ≡ true
 without-part v small large sub u h = let parts = without-has v small u h in has-without v large u (sub u parts.0) parts.1
 
--- of a list that has it once, the rest is left
+-- a list that has it once loses only it
 pub without-middle : (v : Var) (front rest : List Var) → ((u : Var) → Contains front u → same_var v u ≡ false) → ((u : Var) → Contains rest u → same_var v u ≡ false)
     → without v (front ++ v ∷ rest) ≡ front ++ rest
 without-middle v [] rest before after =
@@ -53,7 +53,7 @@ none-either : (b : Bool) → cond {A = Option ℕ} b None None ≡ None
 none-either true = refl
 none-either false = refl
 
--- the values are those of the set
+-- the values of a cut trail are those of the set's variables
 pub value_in-cut : (set : List Var) (trail : List Choice) (u : Var) → value_in (cut set trail) u ≡ cond (has set u) (value_in trail u) None
 value_in-cut set [] u = sym (none-either (has set u))
 value_in-cut set (c ∷ trail) u =
@@ -70,12 +70,12 @@ value_in-cut set (c ∷ trail) u =
       ] refl
     ] refl
 
--- what isn't chosen on the trail isn't chosen on the cut one
+-- a variable without a value on the trail has none on the cut one
 cut-unchosen : (set : List Var) (trail : List Choice) (u : Var) → value_in trail u ≡ None → value_in (cut set trail) u ≡ None
 cut-unchosen set trail u h =
     value_in-cut set trail u ∙ ap (λ o. cond (has set u) o None) h ∙ none-either (has set u)
 
--- each choice is of another variable still
+-- no two choices of a cut trail are of one variable
 pub cut-new : (set : List Var) (trail : List Choice) → AreNew trail → AreNew (cut set trail)
 cut-new set trail before_any = before_any
 cut-new set trail (one_more {before} new c fresh is) =

@@ -1,4 +1,4 @@
--- What is left of a conflict set admits none, and something holds without each of its variables.
+-- The set left admits none, and an assignment holds without each of its variables.
 use Rattle.std.proofs.Common.{◌≡◌, ◌<◌, ◌≤◌, ℕ, suc, length, drop, get_or, drop-cons, true, false, cond, not, List, [], ◌∷◌, ◌++◌, map, Some, None, refl, sym, ap, ◌∙◌, subst, inl, inr, append_assoc}
 use Rattle.std.specs.List.{Contains, AllZip}
 use Rattle.std.proofs.lemmas.Bool.{false≢true}
@@ -27,12 +27,12 @@ use Rattle.conflict_shrink.proofs.Restricts.{holds-in-whole, admits-by-part}
 use Rattle.conflict_shrink.proofs.Searches.{Says, says}
 use Rattle.conflict_shrink.proofs.ShrunkSets.{without-has, has-without, without-itself, without-part, without-middle, value_in-cut, cut-new, zip-push, zip-more, zip-mapped}
 
--- what is known stays known without a variable
+-- known variables stay known when one is removed
 pub known-without : (p : Problem) (v : Var) (set : List Var) → are_known p set ≡ true → are_known p (without v set) ≡ true
 known-without p v set known =
     all-from p.known (without v set) (λ u k. all-at p.known set u known (contains-filter (λ (w : Var). not (same_var v w)) set u k).0)
 
--- something held without the variable, within a set from which others were dropped since
+-- an assignment holds without the variable, within an earlier set from which others were dropped since
 pub record WasFreed (p : Problem) (left : List Var) (v : Var) (trail : List Choice) : Type 0 where
   pub earlier : List Var
   pub part : (u : Var) → has left u ≡ true → has earlier u ≡ true
@@ -43,7 +43,7 @@ module _ (p : Problem) where
   was-freed : (large small : List Var) → ((u : Var) → has small u ≡ true → has large u ≡ true) → (v : Var) (trail : List Choice) → WasFreed p large v trail → WasFreed p small v trail
   was-freed large small sub v trail was = record { earlier = was.earlier; part = λ u h. was.part u (sub u h); once = was.once; holds = was.holds }
 
-  -- the map of a trail within the set without the variable is that of the trail cut to the set
+  -- a trail's assignment within the set without the variable is that of the trail cut to the set
   cut-is-within : (left : List Var) (v : Var) (trail : List Choice) → value_in trail v ≡ None → (u : Var) → within (has (without v left)) (value_in trail) u ≡ value_in (cut left trail) u
   cut-is-within left v trail unchosen u =
       elim (has (without v left) u) as (λ b. has (without v left) u ≡ b → cond b (value_in trail u) None ≡ value_in (cut left trail) u) [
@@ -72,7 +72,7 @@ module _ (p : Problem) where
             (restrict p (has large) (has small) (value_in trail) (λ r is h. without-part v left was.earlier was.part r.target h) was.holds);
       }
 
--- some variables of the whole set stay, the untried ones follow them in goal order, and there is nothing else
+-- the set left has the kept variables, then the untried ones in goal order; it admits none
 pub record Stands (p : Problem) (whole kept untried : List Var) (s : Stage) : Type 0 where
   pub left_is : s.left ≡ kept ++ untried
   pub rising : is_rising untried ≡ true
@@ -101,11 +101,11 @@ module _ (p : Problem) (lawful : Lawful p) (whole : List Var) (budget : Limit) w
     part-lawful : Lawful (restricted p (without v s.left))
     part-lawful = restricted_lawful p (without v s.left) (known-without p v s.left stands.known) lawful
 
-    -- what the search says
+    -- the meaning of the search's end
     search-says : Says (restricted p (without v s.left)) (limit_after budget s.spent) (answer_without p budget v s).ended
     search-says = says (restricted p (without v s.left)) (limit_after budget s.spent) part-lawful
 
-    -- something was found without the variable
+    -- a trail was found without the variable
     stays : (trail : List Choice) → (answer_without p budget v s).ended ≡ Found trail
         → Stands p whole (kept ++ v ∷ []) untried (record { left = s.left; trails = s.trails ++ trail ∷ []; spent = spent })
     stays trail is =
@@ -131,7 +131,7 @@ module _ (p : Problem) (lawful : Lawful p) (whole : List Var) (budget : Limit) w
           });
         }
 
-    -- there is nothing without it
+    -- the search failed without it
     drops : (set : List Var) → (answer_without p budget v s).ended ≡ Failed set
         → Stands p whole kept untried (record { left = without v s.left; trails = s.trails; spent = spent })
     drops set is =
@@ -168,7 +168,7 @@ module _ (p : Problem) (lawful : Lawful p) (whole : List Var) (budget : Limit) w
         | GaveUp ↦ λ is k. absurd (cc k)
       ] refl h
 
--- a shrinking leaves a set from which nothing can be dropped
+-- a shrinking leaves a set from which no variable can be dropped
 pub shrinking-tight : (p : Problem) (set : List Var) (budget : Limit) → Lawful p → is_rising set ≡ true → are_known p set ≡ true → AdmitsNone (general p) (has set)
     → (shrunk : Shrunk) → (shrinking p set budget).ended ≡ Tight shrunk → IsTight (general p) set shrunk
 shrinking-tight p set budget lawful rising known none = tightens p lawful set budget [] set (untried_stage set) (at-start p lawful set budget set rising known none)

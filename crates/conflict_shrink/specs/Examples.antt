@@ -30,7 +30,7 @@ values n order = record { var = package_var n; order = order; barred = [] }
 abbrev asks : Choice → ℕ → List ℕ → Demand
 asks owner n allowed = record { when = owner ∷ []; target = package_var n; allowed = allowed }
 
--- main, 0, asks for 1, for 2 and for 3. What 3 asks of 2 has no value; 1 asks for the worse value of 2, which does no harm.
+-- main, 0, demands 1, 2 and 3. 3 demands 2 and allows no value; 1 allows only the worse value of 2, which isn't needed.
 abbrev main : Demand
 main = record { when = []; target = package_var 0; allowed = 0 ∷ [] }
 
@@ -52,15 +52,15 @@ narrow = problem_of
 abbrev all : List Var
 all = package_var 0 ∷ package_var 1 ∷ package_var 2 ∷ package_var 3 ∷ []
 
--- without 1 its demand is gone, and what main asks of it
+-- without 1, its own demand and main's demand on it are gone
 pub without_first : (restricted narrow (package_var 0 ∷ package_var 2 ∷ package_var 3 ∷ [])).demands (choice 0 0) ≡ second ∷ third ∷ []
 without_first = refl
 
--- without main nothing is asked for
+-- without main there is no root
 pub without_main : (restricted narrow (package_var 1 ∷ package_var 2 ∷ package_var 3 ∷ [])).roots ≡ []
 without_main = refl
 
--- 1 is dropped; without 2 main and 3 stay, and without 3 main and the better value of 2
+-- 1 is dropped; main and 3 hold without 2; main and the better value of 2 hold without 3
 abbrev tight : Shrunk
 tight = record {
   set = package_var 0 ∷ package_var 2 ∷ package_var 3 ∷ [];

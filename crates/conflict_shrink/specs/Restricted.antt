@@ -1,4 +1,4 @@
--- A problem without the variables outside a set, and without the demands that lead there.
+-- The restriction of a problem to the variables of a set, and to the demands among them.
 use Rattle.std.specs.Prelude.{IsTrue, Bool, ◌&&◌, ◌↔◌, List, length, filter}
 use Rattle.std.specs.List.{list_all}
 use Rattle.qualified_goals.specs.declared.variable.Var.{Var}
@@ -14,7 +14,7 @@ use Rattle.choice_problem.specs.ConflictSet.{has}
 abbrev pub stays_in : List Var → Demand → Bool
 stays_in set d = has set d.target && list_all (λ c. has set c.var) d.when
 
--- the problem of the variables of a set
+-- the problem restricted to the variables of a set
 abbrev pub restricted : Problem → List Var → Problem
 restricted p set = record {
   bound = length set;
@@ -35,10 +35,10 @@ pub record CanBeShrunk (p : Problem) (set : List Var) : Type 0 where
   pub known : IsTrue (are_known p set)
   pub none : AdmitsNone (general p) (has set)
 
--- no assignment is whole and valid
+-- no assignment is complete and valid
 abbrev pub HasNoPlan : Problem → Type 0
 HasNoPlan p = (A : Assignment) → IsWholeValid (general p) A → ⊥
 
--- the set admits none exactly where the problem of its variables has no whole valid assignment
+-- the set admits none iff the restricted problem has no complete, valid assignment
 abbrev pub AdmitsByRestricted : Problem → List Var → Type 0
 AdmitsByRestricted p set = AdmitsNone (general p) (has set) ↔ HasNoPlan (restricted p set)

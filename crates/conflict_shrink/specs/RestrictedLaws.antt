@@ -1,4 +1,4 @@
--- A problem of the variables of a set keeps the laws.
+-- A restricted problem is lawful.
 use Rattle.std.proofs.Common.{arith, ◌≡◌, true, List, filter, subst}
 use Rattle.std.specs.List.{list_all, Contains, All}
 use Rattle.std.proofs.lemmas.Bool.{and_parts}

@@ -1,4 +1,4 @@
-// What a restricted problem says of its set.
+// Laws of restricted problems.
 ghost use Rattle.std.specs.Prelude.{◌≡◌, IsTrue, List};
 ghost use Rattle.plan_types.specs.declared.limit.Limit.{Limit};
 ghost use Rattle.qualified_goals.specs.declared.variable.Var.{Var};
@@ -9,7 +9,7 @@ ghost use Rattle.choice_problem.specs.Guide.{Guide, IsGuide};
 ghost use Rattle.choice_problem.specs.Answer.{guided_answer, outcome_of};
 ghost use Rattle.conflict_shrink.specs.Restricted.{are_known, AdmitsByRestricted, CanBeShrunk};
 
-/// A set of known variables admits none exactly where the problem of its variables has no whole valid assignment.
+/// A set of known variables admits none iff the problem restricted to it has no complete, valid assignment.
 pub fn admits_none_as_restricted()
     ensures { (p : Problem) (set : List Var) → Lawful p → IsTrue (are_known p set) → AdmitsByRestricted p set }
 {}

@@ -1,6 +1,6 @@
-//! Conflict sets from which nothing can be dropped. A conflict set admits none, and may name more variables than that
-//! takes. Each is tried in turn: the problem of the other variables is searched, and where it has no plan the variable
-//! is dropped.
+//! Shrinks a conflict set of known variables that admits none. The result is a subset that admits none, with an
+//! assignment for each of its variables that holds without it. The variables are tried in goal order: one is dropped
+//! where the problem of the others has no plan. A budget limits the exhausted points of all searches together.
 #![tactic(auto)]
 
 mod laws;

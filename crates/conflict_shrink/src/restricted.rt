@@ -1,4 +1,4 @@
-// A problem without the variables outside a set.
+// The restriction of a problem to a set of variables.
 ghost use Rattle.std.specs.Prelude.{◌≡◌, IsTrue, IfOk, filter};
 ghost use Rattle.std.specs.List.{list_all};
 ghost use Rattle.choice_problem.specs.ConflictSet.{has};
@@ -8,7 +8,7 @@ use choice_problem::{Choice, Choices, ConflictSet, Demand, Trail, Var};
 use plan_types::{List, NoMemory};
 use std::alloc::Global;
 
-/// The problem of the variables of a set: of the demands it has those whose target and whole condition are in the set.
+/// A problem restricted to a set: it has the demands whose target and whole condition are in the set.
 #[derive(Drop)]
 pub struct Restricted<C: Choices> {
     choices: C,
@@ -17,7 +17,7 @@ pub struct Restricted<C: Choices> {
 }
 
 impl<C: Choices> Restricted<C> {
-    /// The part of a problem that is of these variables.
+    /// The problem restricted to these variables.
     pub fn new(choices: C, set: ConflictSet) -> Restricted<C>
         requires { IsTrue (are_known (C.problem choices) set) }
         ensures problem { ⟦<Restricted<C> as Choices>⟧.problem result ≡ restricted (C.problem choices) set }
@@ -28,7 +28,7 @@ impl<C: Choices> Restricted<C> {
 }
 
 impl<C: Choices + Drop> Restricted<C> {
-    /// The set, where the problem isn't needed any more.
+    /// The set alone.
     pub(crate) fn into_set(self) -> ConflictSet
         ensures { result ≡ self.set }
     {

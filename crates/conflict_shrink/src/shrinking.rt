@@ -1,4 +1,4 @@
-// A conflict set is shrunk: each of its variables is tried, and dropped where the others admit none either.
+// Shrinking a conflict set: each variable is tried, and dropped where the others admit none.
 ghost use Rattle.std.specs.Prelude.{◌≡◌, ◌≢◌, ◌+◌, ◌≤◌, ℕ, IfOk, IsTrue, OnOk, Err, map};
 ghost use Rattle.plan_types.specs.declared.limit.Limit.{Limit};
 ghost use Rattle.choice_problem.specs.General.{general};
@@ -15,7 +15,7 @@ use plan_types::{List, NoMemory};
 use std::alloc::Global;
 use std::sync::ledger::Ledger;
 
-/// A conflict set from which nothing can be dropped.
+/// A conflict set from which no variable can be dropped.
 #[derive(Debug, Drop)]
 pub struct Shrunk {
     pub set: ConflictSet,
@@ -23,12 +23,12 @@ pub struct Shrunk {
     pub maps: List<List<Choice>>,
 }
 
-/// Why a conflict set isn't shrunk.
+/// The reason why a conflict set isn't shrunk.
 #[derive(Clone, Copy, Debug, PartialEq, Eq, Drop)]
 pub enum ShrinkFault {
     NoMemory,
-    /// The searches exhausted so many points together, and the last one gave up. The count stays at 2^64 - 1 once it
-    /// has reached it.
+    /// The last search gave up. `spent` is the number of exhausted points of all searches together, at most
+    /// 2^64 - 1.
     TooLong { spent: u64 },
 }
 
@@ -40,8 +40,8 @@ impl From<NoMemory> for ShrinkFault {
     }
 }
 
-/// Where a shrinking is: the set that is left, what was found without each variable that stays, and how many points
-/// were exhausted.
+/// The state of a shrinking: the set left, the trails found without each variable that stays, and the number of
+/// exhausted points.
 #[derive(Drop)]
 struct Stage {
     left: ConflictSet,
@@ -58,7 +58,7 @@ fn limit_after(budget: Limit, spent: u64) -> Limit
     }
 }
 
-// The choices of the variables of a set.
+// The choices of variables of a set.
 fn cut(alloc: Global, set: &ConflictSet, trail: &[Choice]) -> Result<List<Choice>, NoMemory>
     ensures { IfOk result (λ choices. choices ≡ cut set.now trail.now) }
 {
@@ -96,7 +96,7 @@ impl Stage {
         })
     }
 
-    // Searches for what becomes possible without a variable. It stays where there is something.
+    // Searches without a variable. The variable stays where the search finds a trail.
     fn try_without<C: Choices, L: Ledger>(
         &mut self,
         alloc: Global,
@@ -145,8 +145,8 @@ impl Stage {
     }
 }
 
-/// The part of a conflict set that is left once each variable was tried in goal order, and dropped where the others
-/// that are left admit none either. The budget is of the exhausted points of all searches together.
+/// Shrinks a conflict set. Each variable is tried in goal order, and dropped where the others left admit none.
+/// The budget limits the exhausted points of all searches together.
 pub fn shrink<C: Choices, L: Ledger>(
     alloc: Global,
     choices: &C,

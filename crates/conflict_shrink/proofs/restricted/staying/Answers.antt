@@ -1,4 +1,4 @@
--- what is kept is what stays in the set
+-- the demands kept are those that stay in the set
 use Rattle.std.proofs.Common.{rules, ap, ◌∙◌, filter}
 use Rattle.std.proofs.lemmas.Fn.{filter_same}
 use Rattle.conflict_shrink.specs.Restricted.{stays_in}

@@ -1,4 +1,4 @@
--- the maps so far, and those of the rest
+-- the assignments so far, and those of the rest
 use Rattle.std.proofs.Common.{◌≡◌, ◌++◌, drop, map}
 use Rattle.conflict_shrink.specs.Shrinking.{cut}
 use Rattle.conflict_shrink.proofs.shrinking.cut_all.Given as goal

@@ -1,4 +1,4 @@
--- what is left is tight, and without a budget the end isn't one over it
+-- the set left is tight, and without a budget the shrinking doesn't end over it
 use Rattle.std.proofs.Common.{◌≡◌, ◌∙◌, sym, ap, rules}
 use Rattle.std.specs.Prelude.{IsTrue, Err}
 use Rattle.choice_problem.specs.ConflictSet.{is_rising}

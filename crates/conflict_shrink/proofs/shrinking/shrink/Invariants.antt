@@ -1,4 +1,4 @@
--- what follows from where the shrinking is, is what the whole one gives
+-- the shrinking from the current stage is the whole one
 use Rattle.std.proofs.Common.{◌≡◌, ◌+◌, drop}
 use Rattle.std.specs.Prelude.{IsTrue}
 use Rattle.conflict_shrink.specs.Restricted.{are_known}

@@ -1,4 +1,4 @@
--- the others are known too, and what is left is they
+-- the other variables are known too, and are the set left
 use Rattle.std.proofs.Common.{◌≡◌, true, sym, subst, rules}
 use Rattle.conflict_shrink.specs.Restricted.{are_known}
 use Rattle.conflict_shrink.proofs.Tightens.{known-without}
