@@ -1,17 +1,17 @@
--- Shared: what calls one after the other leave of a folder.
+-- Shared: what a sequence of calls leaves unchanged in a folder.
 use Rattle.std.proofs.Common.{◌≡◌, ℕ, Option, refl, ◌∙◌, subst, arith}
 use Rattle.outside_folder.specs.Calls.{Leaves}
 use Rattle.outside_folder.specs.Faults.{Rose}
 use Rattle.outside_folder.specs.Files.{Files}
 
--- before any call
+-- no call
 pub still : {F failed : Type 0} (tells : F → Option Files) (faults : F → ℕ) (folder : F) → (failed → ⊥) → Leaves tells faults folder folder failed
 still tells faults folder never = record { same_files = refl; later = omega arith; rose = λ h. absurd (never h); still = λ _. refl }
 
 rises : (n m k : ℕ) → m ≡ n → Rose m k → Rose n k
 rises n m k h r = subst (λ n. Rose n k) h r
 
--- after calls that didn't fail, others
+-- calls that didn't fail, followed by others
 pub onward : {F failed then : Type 0} (tells : F → Option Files) (faults : F → ℕ) (old between new : F) → (then → failed) → (failed → then)
     → Leaves tells faults old between ⊥ → Leaves tells faults between new failed → Leaves tells faults old new then
 onward tells faults old between new from to h g = record {

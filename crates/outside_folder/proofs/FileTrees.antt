@@ -1,4 +1,4 @@
--- Shared: when files make a tree.
+-- Shared: when files form a tree.
 use Rattle.std.proofs.Common.{◌≡◌, ◌≢◌, ◌⊎◌, inl, inr, ⊎_elim, ℕ, zero, suc, ◌+◌, ◌<◌, Bool, true, false, not, cond, ◌&&◌, ◌||◌, List, [], ◌∷◌, ◌++◌, length, take, drop, get_or, Option, Some, None, refl, sym, subst, ap, ◌∙◌, arith, length-take, length-drop}
 use Rattle.std.specs.Prelude.{is_some, option_and_then}
 use Rattle.std.proofs.Math.Seq.{drop-cons}
@@ -14,7 +14,7 @@ use Rattle.std.specs.BTreeMap.{get_by_text}
 use Rattle.std.specs.Map.{update}
 use Rattle.std.proofs.lemmas.List.{take_more, get_or-take, get_or-drop, get_or_read}
 
--- each path is one, and no two files clash
+-- all paths are well-formed, and no two files clash
 pub record Good (files : List MemFile) : Type 0 where
   pub paths : (i : ℕ) (d : MemFile) → i < length files → is_path (get_or files i d).path ≡ true
   pub apart : (i j : ℕ) (d : MemFile) → i < j → j < length files → clashes (get_or files i d).path (get_or files j d).path ≡ false
@@ -75,7 +75,7 @@ front_if dir path true e h =
     ((omega (arith, first.0, length-drop (length dir) path), ap (λ k. get_or path k 0) zero_more ∙ sym (get_or-drop (length dir) path 0 0) ∙ here), sym ((bytes_eq-Decides dir (take (length dir) path)).0 e))
 front_if dir path false e h = absurd (false≢true (sym (ap (under_if (drop (length dir) path)) e) ∙ h))
 
--- where one path is in another as in a directory, it is its front before a slash
+-- a directory above a path is a prefix of it before a slash
 pub front_under : (dir path : Bytes) → is_under dir path ≡ true → IsFront path (length dir) × (take (length dir) path ≡ dir)
 front_under dir path h = front_if dir path (bytes_eq dir (take (length dir) path)) refl h
 
@@ -96,7 +96,7 @@ none_of : (place : Option ℕ) → is_some place ≡ false → place ≡ None
 none_of None h = refl
 none_of (Some k) h = absurd (cc)
 
--- two files with the same path make no tree
+-- two files with the same path form no tree
 pub same_path : (files : List MemFile) (i j : ℕ) (d : MemFile) → i < j → j < length files → (get_or files i d).path ≡ (get_or files j d).path → is_tree (told files) ≡ false
 same_path files i j d ij lt same = ⊎_elim
     (λ h. let p = (get_or files i d).path in let q = (get_or files j d).path in
@@ -104,7 +104,7 @@ same_path files i j d ij lt same = ⊎_elim
     (λ h. h)
     (cases_Bool (is_tree (told files)))
 
--- a path that an earlier file has
+-- a file with the path of an earlier file forms no tree with it
 pub contained : (files : List MemFile) (n : ℕ) (f : MemFile) (places : Table) → n < length files → f ≡ get_or files n f → Placed (take n files) places → is_some (get_by_text places f.path) ≡ true → is_tree (told files) ≡ false
 contained files n f places lt is placed some =
     let at : (k : ℕ) × (get_by_text places f.path ≡ Some k) = some_of (get_by_text places f.path) some in
@@ -138,7 +138,7 @@ clash files i j d ilt jlt good under differ =
 differ : (files : List MemFile) (i j : ℕ) (d : MemFile) → i < j → j < length files → AreDistinct files → bytes_eq (get_or files i d).path (get_or files j d).path ≡ false
 differ files i j d ij lt distinct = ⊎_elim (λ h. absurd (distinct i j d ij lt ((bytes_eq-Decides (get_or files i d).path (get_or files j d).path).0 h))) (λ h. h) (cases_Bool (bytes_eq (get_or files i d).path (get_or files j d).path))
 
--- ---- files, each of which has no file above it
+-- ---- files with no file above them
 
 -- the first files fit
 abbrev pub Fits : List MemFile → Table → ℕ → Type 0
@@ -152,7 +152,7 @@ fits_more files places n f lt is here before k d low within = ⊎_elim
     (cases_lt k n)
 
 module _ (files : List MemFile) (places : Table) (placed : Placed files places) where
-  -- a file above one of the files
+  -- a file above one of the files: no tree
   under_file : (j : ℕ) (d : MemFile) → j < length files → IsUnderFile places (get_or files j d).path → is_tree (told files) ≡ false
   under_file j d lt h =
       let path = (get_or files j d).path in

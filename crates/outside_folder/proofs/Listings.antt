@@ -1,4 +1,4 @@
--- The names in each directory, one path further.
+-- The names in each directory after one more path.
 use Rattle.std.proofs.Common.{◌≡◌, ◌≢◌, ⊎_elim, ℕ, ◌+◌, ◌<◌, ◌≤◌, Bool, true, false, cond, List, [], ◌∷◌, ◌++◌, length, take, get_or, Option, Some, None, refl, sym, subst, ap, ◌∙◌, arith, length-take}
 use Rattle.std.specs.Prelude.{is_some, fold}
 use Rattle.std.specs.BTreeMap.{BTreeMap, get_by_text}
@@ -31,7 +31,7 @@ no_name : (rest : Option Bytes) → is_some rest ≡ false → option_map first_
 no_name None h = refl
 no_name (Some r) h = absurd (cc)
 
--- a path doesn't go on from a directory in which it doesn't lie
+-- a path has no next name below a directory that isn't above it
 outside : (dir path : Bytes) → 0 < length dir → is_under dir path ≡ false → name_in dir path ≡ None
 outside [] path lt h = absurd (omega (arith, lt))
 outside (b ∷ bs) path lt h = no_name (inside (b ∷ bs) path) h
@@ -68,7 +68,7 @@ adds_front old new path end begun within step =
           ∙ ap (λ t. cond t (with_name (names_at old front) (name_in front path)) (names_at old dir)) (differs front dir (λ e. other (ap length (sym e) ∙ len))),
     )
 
--- the directories whose paths have fewer bytes have the name, too
+-- the directories above the path with fewer bytes have its next name already; the others are unchanged
 pub record Upto (old new : Dirs) (path : Bytes) (end : ℕ) : Type 0 where
   pub below : (dir : Bytes) → length dir < end → names_at new dir ≡ with_name (names_at old dir) (name_in dir path)
   pub rest : (dir : Bytes) → end ≤ length dir → names_at new dir ≡ names_at old dir

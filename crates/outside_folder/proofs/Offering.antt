@@ -1,4 +1,4 @@
--- One turn more of writing a text.
+-- One more write of a text.
 use Rattle.std.proofs.Common.{◌≡◌, ℕ, ◌<◌, List, [], ◌∷◌, ◌++◌, length, drop, Result, Ok, Err, refl, sym, subst}
 use Rattle.std.specs.Prelude.{OnErr}
 use Rattle.outside_folder.specs.declared.sink.SinkFault.{SinkFault}
@@ -13,7 +13,7 @@ Offers-more takes sink text [] now left n next so_far some took =
 Offers-more takes sink text (count ∷ counts) now left n next so_far some took =
     (so_far.0, so_far.1, so_far.2, Offers-more takes so_far.1 (drop count text) counts now left n next so_far.3 some took)
 
--- what holds at all holds where there is an error
+-- a true statement is true on an error, too
 pub on-err : {T E : Type 0} (result : Result T E) (P : Type 0) → P → OnErr result P
 on-err (Ok x) P p = tt
 on-err (Err e) P p = p

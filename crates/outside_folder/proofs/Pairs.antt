@@ -1,4 +1,4 @@
--- Two lists that agree place by place.
+-- Two lists related element by element.
 use Rattle.std.proofs.Common.{List, [], ◌∷◌, ◌++◌}
 use Rattle.std.specs.List.{AllZip}
 

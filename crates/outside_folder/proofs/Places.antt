@@ -1,4 +1,4 @@
--- The table of the places of files, one file further.
+-- The table of the files' positions after one more file.
 use Rattle.std.proofs.Common.{◌≡◌, ◌≢◌, inl, inr, ℕ, zero, suc, ◌<◌, Bool, true, false, cond, List, [], ◌∷◌, ◌++◌, length, get_or, Option, Some, None, refl, sym, subst, ap, ◌∙◌, arith, length-append}
 use Rattle.std.specs.Prelude.{MatchOption, String}
 use Rattle.std.specs.BTreeMap.{BTreeMap, get_by_text}
@@ -29,7 +29,7 @@ found_cons : (g : MemFile) (gs : List MemFile) (path bytes : Bytes) (t : Bool) �
 found_cons g gs path bytes true e is later = (0, omega arith, λ d. (bytes_eq-Decides g.path path).0 e)
 found_cons g gs path bytes false e is later = let r = later is in (suc r.0, omega (arith, r.1), r.2)
 
--- where a path has a file, one of the files has the path
+-- if a file is found at a path, one of the files has the path
 pub found : (files : List MemFile) (path bytes : Bytes) → file_at (told files) path ≡ Some bytes → (k : ℕ) × (k < length files) × ((d : MemFile) → (get_or files k d).path ≡ path)
 found [] path bytes is = absurd (cc)
 found (g ∷ gs) path bytes is = found_cons g gs path bytes (bytes_eq g.path path) refl is (found gs path bytes)
@@ -38,7 +38,7 @@ missing_cons : (a : Bytes) (more : Option Bytes) (t : Bool) → cond t (Some a) 
 missing_cons a more true is = absurd (cc)
 missing_cons a more false is = (refl, is)
 
--- where a path has no file, no file has the path
+-- if no file is found at a path, no file has the path
 pub missing : (files : List MemFile) (path : Bytes) → file_at (told files) path ≡ None → (k : ℕ) (d : MemFile) → k < length files → (get_or files k d).path ≢ path
 missing [] path is k d lt = absurd (omega (arith, lt))
 missing (g ∷ gs) path is zero d lt = λ e. false≢true (sym (missing_cons g.bytes (file_at (told gs) path) (bytes_eq g.path path) is).0 ∙ (bytes_eq-Decides g.path path).1 e)

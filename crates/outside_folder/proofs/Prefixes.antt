@@ -1,4 +1,4 @@
--- What stands behind a text at the front of another.
+-- The rest of a text after a prefix.
 use Rattle.std.proofs.Common.{◌≡◌, ℕ, List, drop, Option, Some, None, true, false, ap, ◌∙◌, sym, subst}
 use Rattle.std.specs.Option.{MatchOption, option_copied}
 use Rattle.std.specs.Str.{IsCharBoundary}

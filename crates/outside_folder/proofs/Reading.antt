@@ -1,4 +1,4 @@
--- One read more of a file.
+-- One more read of a file.
 use Rattle.std.proofs.Common.{◌≡◌, ℕ, ◌<◌, List, [], ◌∷◌, ◌++◌, length, Option, Some, None, Result, Ok, Err, refl, sym, subst}
 use Rattle.std.specs.Prelude.{IfOk, IsErrOf}
 use Rattle.std.proofs.lemmas.List.Sums.{fold-append}
@@ -17,7 +17,7 @@ GivesPieces-more gives file (one ∷ pieces) now piece next so_far gave some =
 pub joined-more : (pieces : List Bytes) (piece : Bytes) → joined (pieces ++ piece ∷ []) ≡ joined pieces ++ piece
 joined-more pieces piece = fold-append (λ bytes piece. bytes ++ piece) [] pieces (piece ∷ [])
 
--- what an error says that a read gave after these pieces
+-- the answer after these pieces and then an error of a read
 pub stopped : {F : Type 0} (gives : F → Result Bytes Error → F → Type 0) (path : Bytes) (file : F) (pieces : List Bytes) (now : F) (error : Error) (next : F) (answer : Result (Option Bytes) FolderFault)
     → GivesPieces gives file pieces now → gives now (Err error) next → IsUnread path error answer → IfOk answer (λ bytes. bytes ≡ None) → (IsErrOf answer TooLarge → ⊥) → IsReadAs gives path file answer
 stopped gives path file pieces now error next (Ok (Some bytes)) so_far gave told never large = absurd (cc never)

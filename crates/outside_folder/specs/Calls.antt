@@ -1,4 +1,4 @@
--- What calls on a folder leave of it, and what is found at a path.
+-- What calls on a folder leave unchanged, and what a read finds at a path.
 use Rattle.std.specs.Prelude.{◌≡◌, ℕ, ◌≤◌, nat_lt, length, Option, Some, None, if◌then◌else◌}
 use Rattle.plan_types.specs.declared.refusal.Halt.{Halt}
 use Rattle.plan_types.specs.declared.refusal.Halt.TheVariants as halt
@@ -10,14 +10,14 @@ use Rattle.outside_folder.specs.Faults.{Rose}
 use Rattle.outside_folder.specs.Files.{Bytes, Files, file_at}
 use Rattle.outside_folder.specs.Folder.{file_limit}
 
--- The files that are told stay, and the count of faults rose where the calls failed, and is as it was otherwise.
+-- The observable files are unchanged. The count of faults rose if the calls failed, and is unchanged otherwise.
 pub record Leaves {F : Type 0} (tells : F → Option Files) (faults : F → ℕ) (old new : F) (failed : Type 0) : Type 0 where
   pub same_files : tells new ≡ tells old
   pub later : faults old ≤ faults new
   pub rose : failed → Rose (faults old) (faults new)
   pub still : (failed → ⊥) → faults new ≡ faults old
 
--- what is found of a file with these bytes
+-- what a read finds of a file with these bytes, or of no file
 abbrev pub content_of : Option Bytes → Content
 content_of None = Missing
 content_of (Some bytes) = if nat_lt file_limit (length bytes) then TooLarge else Holds bytes
@@ -26,13 +26,13 @@ content_of (Some bytes) = if nat_lt file_limit (length bytes) then TooLarge else
 abbrev pub content_at : Files → Bytes → Content
 content_at files path = content_of (file_at files path)
 
--- a file that was read isn't too large
+-- a file whose bytes were read is within the limit
 abbrev pub IsWithin : Content → Type 0
 IsWithin Missing = Unit {0}
 IsWithin TooLarge = Unit {0}
 IsWithin (Holds bytes) = length bytes ≤ file_limit
 
--- what ends a step where a call on a folder had this trouble
+-- the halt of a step whose call on a folder failed or ran out of memory
 abbrev pub halt_of : Trouble → Halt
 halt_of Failed = halt.Failed
 halt_of NoMemory = halt.NoMemory

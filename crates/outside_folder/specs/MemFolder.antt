@@ -8,14 +8,14 @@ use Rattle.outside_folder.specs.Files.{Files}
 abbrev pub mem_files : MemFolder → Files
 mem_files folder = told folder.files
 
--- which calls are to fail
+-- the numbers of the calls that are to fail
 abbrev pub mem_fail_at : MemFolder → List ℕ
 mem_fail_at folder = folder.fail_at
 
--- how many calls there were
+-- the number of calls so far
 abbrev pub mem_calls : MemFolder → ℕ
 mem_calls folder = folder.calls
 
--- how many of its calls have failed
+-- the number of its calls that have failed
 abbrev pub mem_faults : MemFolder → ℕ
 mem_faults folder = folder.faults

@@ -1,4 +1,4 @@
--- Small examples of what is made of a folder of the system.
+-- Small examples for a folder of the system.
 use Rattle.std.specs.Prelude.{◌≡◌, ℕ, List, refl, true, false, [], ◌∷◌, ◌++◌, codes, replicate}
 use Rattle.outside_folder.specs.Files.{slash}
 use Rattle.outside_folder.specs.RealFolder.{system_path, by_text, has_long_name, joined}
@@ -10,7 +10,7 @@ is_root = refl
 is_below : system_path (codes ".") (codes "index/a") ≡ codes "./index/a"
 is_below = refl
 
--- a directory gives its names in any order
+-- the system gives a directory's names in any order
 in_order : by_text (record { text = codes "b"; folder = true } ∷ record { text = codes "a"; folder = false } ∷ []) ≡ (codes "a", false) ∷ (codes "b", true) ∷ []
 in_order = refl
 

@@ -1,49 +1,49 @@
--- What a write does to the bytes of a sink, and how a whole text is offered to it.
+-- The effect of a write on a sink's bytes, and the writes of a whole text.
 use Rattle.std.specs.Prelude.{◌≡◌, ℕ, ◌≤◌, ◌<◌, List, [], ◌∷◌, ◌++◌, length, take, drop, Option, None, Result, Ok, Err}
 use Rattle.std.specs.declared.io.Error.{Error}
 use Rattle.outside_folder.specs.declared.sink.SinkFault.{SinkFault}
 use Rattle.outside_folder.specs.declared.sink.SinkFault.TheVariants.{Failed}
 use Rattle.std.specs.Option.{option_map}
 
--- the bytes of a sink that doesn't tell them
+-- the bytes of a sink that isn't observable
 abbrev pub untold : Option (List ℕ)
 untold = None
 
--- where the sink tells, these bytes came behind the others
+-- where the sink is observable, these bytes were appended
 abbrev pub Appends : Option (List ℕ) → Option (List ℕ) → List ℕ → Type 0
 Appends old new piece = new ≡ option_map (λ bytes. bytes ++ piece) old
 
--- some bytes from the front of the text came behind the others
+-- where the sink is observable, a prefix of the text was appended
 abbrev pub AppendsPrefix : Option (List ℕ) → Option (List ℕ) → List ℕ → Type 0
 AppendsPrefix old new text = (n : ℕ) × (n ≤ length text) × Appends old new (take n text)
 
--- so many bytes of the piece were taken, at least one where it has any
+-- a write took so many bytes of the piece, at least one of a non-empty piece
 abbrev pub IsCount : List ℕ → ℕ → Type 0
 IsCount piece n = (n ≤ length piece) × (0 < length piece → 0 < n)
 
--- What is left of a text was offered at each turn, and so many bytes of it were taken. In the end this is left.
+-- A sequence of writes: each was offered the rest of the text and took so many bytes. This is left at the end.
 abbrev pub Offers : {S : Type 0} → (S → List ℕ → Result ℕ SinkFault → S → Type 0) → S → List ℕ → List ℕ → S → List ℕ → Type 0
 Offers takes sink text [] now left = (sink ≡ now) × (text ≡ left)
 Offers {S = S} takes sink text (n ∷ ns) now left =
     (0 < length text) × (next : S) × takes sink text (Ok n) next × Offers takes next (drop n text) ns now left
 
--- the whole text was offered so, until nothing was left
+-- such writes took the whole text
 abbrev pub IsWritten : {S : Type 0} → (S → List ℕ → Result ℕ SinkFault → S → Type 0) → S → List ℕ → S → Type 0
 IsWritten takes old text new = (counts : List ℕ) × Offers takes old text counts new []
 
--- the text was offered so, until the first write that failed, and nothing was offered after that one
+-- such writes took a part of the text, the next write failed, and it was the last
 abbrev pub IsCut : {S : Type 0} → (S → List ℕ → Result ℕ SinkFault → S → Type 0) → S → List ℕ → S → Type 0
 IsCut {S = S} takes old text new =
     (counts : List ℕ) × (at : S) × (left : List ℕ) × (fault : SinkFault)
     × Offers takes old text counts at left × (0 < length left) × takes at left (Err fault) new
 
--- What is told of a writer's answer: a writer that takes nothing of a piece has failed.
+-- The sink's result for a writer's answer: to take nothing of a non-empty piece is a failure.
 abbrev pub IsTakenAs : List ℕ → Result ℕ Error → Result ℕ SinkFault → Type 0
 IsTakenAs piece (Ok n) (Ok taken) = taken ≡ n
 IsTakenAs piece (Ok n) (Err Failed) = (n ≡ 0) × (0 < length piece)
 IsTakenAs piece (Err error) (Ok taken) = ⊥
 IsTakenAs piece (Err error) (Err Failed) = Unit {0}
 
--- the writer was asked once, and this is told of its answer
+-- the writer was called once, and the sink's result is the one for its answer
 abbrev pub Takes : {W : Type 0} → (W → List ℕ → Result ℕ Error → W → Type 0) → W → List ℕ → Result ℕ SinkFault → W → Type 0
 Takes writes old piece result new = (answer : Result ℕ Error) × writes old piece answer new × IsTakenAs piece answer result

@@ -1,4 +1,4 @@
-// A folder's answers as the layers above take them: what is at a path, or that the run ends.
+// A folder's answers for the layers above: what is at a path, or why the run ends.
 ghost use Rattle.std.specs.Prelude.{◌≡◌, IfOk, IfSome, IsErrOf, IsTrue};
 ghost use Rattle.outside_folder.specs.declared.calls.Trouble.TheVariants.{NoMemory as trouble_no_memory};
 ghost use Rattle.outside_folder.specs.Calls.{IsWithin, Leaves, content_at, halt_of};
@@ -9,7 +9,7 @@ use crate::{Folder, FolderFault, Name};
 use plan_types::{Halt, List, NoMemory};
 use std::alloc::Global;
 
-/// What ends a run at the moment at which it happens.
+/// Why a run ends at once.
 #[derive(Clone, Copy, Debug, PartialEq, Eq)]
 pub enum Trouble {
     /// The folder failed.

@@ -1,4 +1,4 @@
-// What a folder answers.
+// The trait of folders, and their answers.
 ghost use Rattle.std.specs.Prelude.{◌≡◌, ◌≢◌, ◌≤◌, ◌^◌, ◌-◌, ℕ, List, Option, length, [], IfOk, IfSome, IsSome, IsErrOf, IsTrue};
 ghost use Rattle.outside_folder.specs.declared.folder.FolderFault.TheVariants.{NoMemory as folder_no_memory};
 ghost use Rattle.outside_folder.specs.Files.{Files, is_tree, as_names};
@@ -10,10 +10,10 @@ use std::alloc::Global;
 use std::collections::BTreeMap;
 use thiserror::Error;
 
-/// How many bytes the largest file that is read has.
+/// The largest size of a file that is read, in bytes.
 pub const FILE_LIMIT: usize = 1_048_576;
 
-/// A name in a directory, and whether it is that of a directory.
+/// A name in a directory, and whether it is the name of a directory.
 #[derive(Debug, PartialEq, Eq, PartialOrd, Ord, Drop)]
 pub struct Name {
     pub text: Text,
@@ -43,13 +43,13 @@ impl From<NoMemory> for FolderFault {
 
 /// A folder of files. Paths are relative to its root, with `/` between names; the root is the empty path.
 pub trait Folder {
-    /// The files, where the folder tells them.
+    /// The files, where the folder is observable.
     ghost tells: { Self → Option Files };
 
-    /// What the count of faults never passes.
+    /// An upper bound of the count of faults.
     ghost ceiling: { Self → ℕ };
 
-    /// How often the outside has failed so far: it rises where a call answers `Failed`, and never falls.
+    /// The number of failures so far: it rises when a call answers `Failed`, and never falls.
     ghost faults: { Self → ℕ };
 
     /// The names in a directory, in byte order, each once; `None` where there is no such directory. The root is
@@ -86,7 +86,7 @@ pub trait Folder {
         ensures same_ceiling { ceiling self.new ≡ ceiling self.old };
 }
 
-// The names of a directory, from a map that has each once.
+// The names of a directory as a list, in the order of the map.
 pub(crate) fn as_names(alloc: Global, names: BTreeMap<Text, bool>) -> Result<List<Name>, NoMemory>
     ensures names { IfOk result (λ listed. listed ≡ as_names names.entries) }
     ensures order { IfOk result IsInOrder }

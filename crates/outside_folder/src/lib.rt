@@ -1,6 +1,7 @@
-//! The outside: a folder that is read and a sink that is written, each with a count of its faults.
-//! The planner asks these two traits for all that it reads and writes. A folder or a sink in memory
-//! tells its content, so that a contract can say what is made of it; the real ones don't.
+//! The outside world: a trait for a folder that is read, and one for a sink that is written.
+//! A path goes in, and its names or bytes come out; a text goes in, and all of it is written, or a prefix.
+//! The count of faults rises exactly when a call fails, up to 2^64 - 1. A folder or sink in memory is
+//! observable: contracts can see its content. The real ones aren't.
 #![tactic(auto)]
 
 mod calls;

@@ -40,11 +40,11 @@ impl From<NoMemory> for MemFault {
     }
 }
 
-/// A folder in memory, which tells its files. The calls with these numbers fail, lists and reads
-/// counted together from 1.
+/// A folder in memory, whose files are observable. The calls with the numbers in `fail_at` fail; lists and reads
+/// are counted together, from 1.
 pub struct MemFolder {
     files: List<MemFile>,
-    /// The place of each file, by its path.
+    /// The position of each file, by its path.
     places: BTreeMap<String, usize>,
     /// The names in each directory.
     dirs: BTreeMap<String, BTreeMap<Text, bool>>,
@@ -101,7 +101,7 @@ impl MemFolder {
         })
     }
 
-    // Counts a call, and says whether it is one of those that fail.
+    // Counts a call. True if it is one that is to fail.
     fn fails(&mut self) -> bool
         ensures answer { result ≡ fails_next (mem_fail_at self.old) (mem_calls self.old) }
         ensures counts { mem_calls self.new ≡ next_count (mem_calls self.old) }
@@ -139,7 +139,7 @@ impl Folder for MemFolder {
         ensures root { dir.now ≡ [] → IfOk result IsSome }
         ensures never_too_large { IsErrOf result FolderFault.TooLarge → ⊥ }
 
-        // It fails at the calls that are to fail, and at no other.
+        // Exactly the calls that are to fail do.
         ensures fails { IsErrOf result FolderFault.Failed
             ↔ IsTrue (fails_next (mem_fail_at self.old) (mem_calls self.old)) }
         ensures counts { mem_calls self.new ≡ next_count (mem_calls self.old) }
@@ -293,7 +293,7 @@ fn dirs_of(
     Ok(dirs)
 }
 
-// Adds the name by which a path goes on, in each directory in which it lies.
+// Adds the next name of a path to each directory above it.
 fn add_path(
     alloc: Global,
     dirs: &mut BTreeMap<String, BTreeMap<Text, bool>>,
@@ -309,7 +309,7 @@ fn add_path(
     Ok(())
 }
 
-// The same for the one directory that ends at a place.
+// The same for the directory above the path that ends at this byte, if there is one.
 fn add_at(
     alloc: Global,
     dirs: &mut BTreeMap<String, BTreeMap<Text, bool>>,
@@ -342,7 +342,7 @@ fn add_in(
     put_names(alloc, dirs, dir, names)
 }
 
-// The names of a directory, which are taken out.
+// Removes a directory from the table and returns its names.
 fn taken_names(
     alloc: Global,
     dirs: &mut BTreeMap<String, BTreeMap<Text, bool>>,
@@ -384,7 +384,7 @@ fn add_name(
     Ok(())
 }
 
-// The name in a directory by which a path goes on from there, and whether it is a directory's.
+// The next name of a path below a directory, and whether it is a directory's.
 fn name_in<'a>(dir: &str, path: &'a str) -> Option<(&'a str, bool)>
     ensures { option_map (λ name. (name.0.now, name.1)) result ≡ name_in dir.now path.now }
 {
@@ -422,7 +422,7 @@ fn after<'a>(front: &str, path: &'a str) -> Option<&'a str>
     path.strip_prefix(front)
 }
 
-// The place of each file, where the files make a tree.
+// The position of each file; `None` where the files form no tree.
 fn tree_places(
     alloc: Global,
     files: &[MemFile],
@@ -439,7 +439,7 @@ fn tree_places(
     }
 }
 
-// The place of each file, where no two have the same path.
+// The position of each file; `None` where two have the same path.
 fn places_of(alloc: Global, files: &[MemFile]) -> Result<Option<BTreeMap<String, usize>>, NoMemory>
     ensures { IfOk result (HasPlaces (AreDistinct files.now) files.now) }
 {
@@ -454,7 +454,7 @@ fn places_of(alloc: Global, files: &[MemFile]) -> Result<Option<BTreeMap<String,
     Ok(Some(places))
 }
 
-// Whether each path is one, and no file stands where a path has a directory.
+// Whether all paths are well-formed, and no directory above one is a file's path.
 fn stand_apart(files: &[MemFile], places: &BTreeMap<String, usize>) -> bool
     requires distinct { AreDistinct files.now }
     requires placed { Placed files.now places.now }
@@ -468,14 +468,14 @@ fn stand_apart(files: &[MemFile], places: &BTreeMap<String, usize>) -> bool
     true
 }
 
-// Whether a path is one, and no file stands where it has a directory.
+// Whether a path is well-formed, and no directory above it is a file's path.
 fn fits(places: &BTreeMap<String, usize>, path: &str) -> bool
     ensures { MayStand places.now path.now result }
 {
     is_path(path.as_bytes()) && !has_file_above(places, path)
 }
 
-// Whether there is a file where a path has a directory.
+// Whether a directory above the path is a file's path.
 fn has_file_above(places: &BTreeMap<String, usize>, path: &str) -> bool
     ensures { MatchBool result (IsUnderFile places.now path.now) (IsFree places.now path.now) }
 {
@@ -487,7 +487,7 @@ fn has_file_above(places: &BTreeMap<String, usize>, path: &str) -> bool
     false
 }
 
-// Whether a path has a slash at this place, and a file stands before it.
+// Whether the path has a slash at this byte, and what is before it is a file's path.
 fn is_file_above(places: &BTreeMap<String, usize>, path: &str, end: usize) -> bool
     requires { end < length path.now }
     ensures { IsFileAt places.now path.now end result }

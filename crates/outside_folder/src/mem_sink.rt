@@ -8,8 +8,8 @@ use crate::{Sink, SinkFault};
 use plan_types::{List, NoMemory};
 use std::alloc::Global;
 
-/// A sink in memory, with room for so many bytes, that takes so many at most in a write and fails at
-/// the writes with these numbers, counted from 1.
+/// A sink in memory for `room` bytes. A write takes at most `most` bytes. The writes with the numbers in `fail_at`
+/// fail, counted from 1.
 #[derive(Drop)]
 pub struct MemSink {
     written: Vec<u8>,
@@ -51,7 +51,7 @@ impl MemSink {
         })
     }
 
-    /// What was written.
+    /// The bytes written so far.
     pub fn bytes(&self) -> &[u8]
         ensures { result.now ≡ written_bytes self.now }
     {
@@ -62,7 +62,7 @@ impl MemSink {
 impl MemSink {
     ghost use Rattle.outside_folder.specs.MemSink.{written_bytes, sink_faults, sink_writes, number_fails, keeps};
 
-    // Counts a write, and says whether its number is one of those that fail.
+    // Counts a write. True if it is one that is to fail.
     fn fails(&mut self) -> bool
         ensures answer { result ≡ number_fails self.old }
         ensures counts { sink_writes self.new ≡ next_count (sink_writes self.old) }
@@ -100,7 +100,7 @@ impl Sink for MemSink {
             (λ n. Appends (Some (written_bytes self.old)) (Some (written_bytes self.new)) (take n piece.now)) }
         ensures err { OnErr result (Some (written_bytes self.new) ≡ Some (written_bytes self.old)) }
 
-        // It takes as much as it can, and fails where it is to fail or can take nothing.
+        // A write takes as much as it can. It fails if it is to fail, or can take nothing of a non-empty piece.
         ensures taken { IfOk result (λ n. n ≡ taken_of self.old piece.now) }
         ensures fails { IsErr result
             ↔ ((number_fails self.old ≡ true) ⊎ ((0 < length piece.now) × (taken_of self.old piece.now ≡ 0))) }

@@ -1,4 +1,4 @@
-// What a real folder holds isn't told. What is made of the system's answers is proved over any system, any entries and
+// A real folder isn't observable. Its results are proved from the system's answers, for any system, any entries and
 // any reader.
 ghost use Rattle.std.specs.Prelude.{◌≡◌, ◌≢◌, ◌≤◌, ◌<◌, ◌+◌, ◌^◌, ◌-◌, ◌++◌, ◌↔◌, [], None, length, Ok, Err, Result, Option, List, ℕ, IfOk, IfErr, IfSome, IsSome, OnOk, OnErr, IsErrOf, IsErrAnd, IsTrue, true, false};
 ghost use Rattle.std.specs.Iterator.{IsFinite};
@@ -21,10 +21,10 @@ use std::rt::Files;
 
 const NAME_LIMIT: usize = 1_048_576;
 
-// How many bytes a name of a file has at most.
+// The length of the longest file name, in bytes.
 const LONGEST_NAME: usize = 255;
 
-// How many bytes a read asks for.
+// The size of the buffer for a read, in bytes.
 const PIECE: usize = 65_536;
 
 /// A folder of the system, with a count of its faults that stays at 2^64 - 1.
@@ -61,11 +61,11 @@ impl<R: SystemCalls> Folder for RealFolder<'_, R> {
         ensures root { dir.now ≡ [] → IfOk result IsSome }
         ensures never_too_large { IsErrOf result FolderFault.TooLarge → ⊥ }
 
-        // It is what the system says of the directory at this path below the root.
+        // The result comes from the system's answers for the directory at this path below the root.
         ensures asked { IsListingAt (R.lists self.old.rt.now) (R.finds self.old.rt.now)
             ⟦<ReadDir<R, Global> as Iterator>⟧.next_gives self.old.root dir.now result }
 
-        // No other call than one that answers `Failed` changes the count.
+        // Only a call that answers `Failed` changes the count.
         ensures failed { IsErrOf result FolderFault.Failed → Rose self.old.faults self.new.faults }
         ensures still { (IsErrOf result FolderFault.Failed → ⊥) → self.new.faults ≡ self.old.faults }
         ensures later { self.old.faults ≤ self.new.faults }
@@ -81,7 +81,7 @@ impl<R: SystemCalls> Folder for RealFolder<'_, R> {
     fn read(&mut self, alloc: Global, path: &str) -> Result<Option<List<u8>>, FolderFault>
         ensures within { IfOk result IsWithinLimit }
 
-        // It is what the system says of the file at this path below the root.
+        // The result comes from the system's answers for the file at this path below the root.
         ensures asked { IsReadAt (R.opens self.old.rt.now) (R.gives self.old.rt.now) self.old.root path.now result }
 
         ensures failed { IsErrOf result FolderFault.Failed → Rose self.old.faults self.new.faults }
@@ -97,7 +97,7 @@ impl<R: SystemCalls> Folder for RealFolder<'_, R> {
     }
 }
 
-// The fault that an error of the system is. A failure is counted where it is met, and nowhere else.
+// The fault that an error of the system means. A failure is counted in `failed` and nowhere else.
 fn fault_of(faults: &mut u64, error: &io::Error) -> FolderFault
     ensures fault { IsFaultOf error.now result }
     ensures counted { Counts faults.old faults.new (result ≡ FolderFault.Failed) }
@@ -117,7 +117,7 @@ fn failed(faults: &mut u64) -> FolderFault
     FolderFault::Failed
 }
 
-// A link that leads back to itself leads to nothing.
+// A loop of links leads to nothing.
 fn is_nothing(error: &io::Error) -> bool
     ensures { IsTrue result ↔ IsNothing error.now }
 {
@@ -127,7 +127,7 @@ fn is_nothing(error: &io::Error) -> bool
     )
 }
 
-// A name that no file can have is that of nothing. A path may be too long without one.
+// Nothing has a name that is too long for a file. A path may be too long although all its names are short.
 fn is_missing(path: &str, error: &io::Error) -> bool
     ensures { IsTrue result ↔ IsMissing path.now error.now }
 {
@@ -185,7 +185,7 @@ fn list_at<S: SystemCalls>(
     listing_of(system, alloc, faults, dir, system.entries_at(path.as_str()))
 }
 
-// What is told of a directory that was opened, or couldn't be.
+// The answer for a directory after an attempt to open it.
 fn listing_of<S: SystemCalls, I: Iterator<Item = io::Result<DirEntry<S, Global>>> + Drop>(
     system: &S,
     alloc: Global,
@@ -228,7 +228,7 @@ fn unlisted(
     }
 }
 
-// All names that a directory's entries give, in byte order.
+// The names of all entries of a directory, in byte order.
 fn listed<S: SystemCalls, I: Iterator<Item = io::Result<DirEntry<S, Global>>> + Drop>(
     system: &S,
     alloc: Global,
@@ -272,7 +272,7 @@ fn names_of<S: SystemCalls, I: Iterator<Item = io::Result<DirEntry<S, Global>>> 
     Ok(names)
 }
 
-// Takes one name more; where there are as many as can be listed, that is a failure.
+// Adds a name. It fails if the limit is reached already.
 fn add_name(
     faults: &mut u64,
     names: &mut BTreeMap<Text, bool>,
@@ -348,7 +348,7 @@ fn read_at<S: SystemCalls>(
     read_of(system, alloc, faults, path, system.open_at(whole.as_str()))
 }
 
-// What is told of a file that was opened, or couldn't be.
+// The answer for a file after an attempt to open it.
 fn read_of<S: SystemCalls>(
     system: &S,
     alloc: Global,
@@ -366,7 +366,7 @@ fn read_of<S: SystemCalls>(
     }
 }
 
-// Reads a file until nothing more comes, or it is too large.
+// Reads a file to its end, or until it is too large.
 fn read_all<S: SystemCalls>(
     system: &S,
     alloc: Global,
@@ -405,7 +405,7 @@ fn add_piece(bytes: &mut Vec<u8>, piece: &[u8]) -> Result<(), NoMemory>
     Ok(())
 }
 
-// A directory is no file.
+// A directory isn't a file: `None`, as for a missing file.
 fn unread(faults: &mut u64, path: &str, error: &io::Error) -> Result<Option<List<u8>>, FolderFault>
     ensures observed { IsUnread path.now error.now result }
     ensures within { IfOk result IsWithinLimit }

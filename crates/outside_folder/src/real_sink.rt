@@ -1,4 +1,4 @@
-// What standard output received isn't told. What is made of a writer's answers is proved over any writer.
+// Standard output isn't observable. The sink's results are proved from a writer's answers, for any writer.
 ghost use Rattle.std.specs.Prelude.{◌≡◌, ◌≤◌, ◌<◌, ◌^◌, ◌-◌, take, IfOk, OnOk, OnErr};
 ghost use Rattle.std.specs.Io.KnownBytes as known;
 ghost use Rattle.outside_folder.specs.Sink.{Appends, IsCount, Takes, untold};
@@ -48,15 +48,15 @@ impl<W: WriterCalls> Sink for WriterSink<W> {
         ensures ok { IfOk result (λ n. Appends untold untold (take n piece.now)) }
         ensures err { OnErr result (untold ≡ untold) }
 
-        // The writer is asked once. It fails where it gives an error, or takes nothing of a piece.
+        // The writer is called once. An error is a failure, and so is to take nothing of a non-empty piece.
         ensures observed { Takes W.writes self.old.writer piece.now result self.new.writer }
 
-        // The writer holds what was taken and no more, where it tells what it holds.
+        // Where the writer's contents are known, exactly the taken bytes are appended, and none after a failure.
         ensures taken { IfOk result
             (λ n. known.Appends (W.contents self.old.writer) (W.contents self.new.writer) (take n piece.now)) }
         ensures kept { OnErr result (known.Keeps (W.contents self.old.writer) (W.contents self.new.writer)) }
 
-        // No other write than one that answers `Failed` changes the count.
+        // Only a write that answers `Failed` changes the count.
         ensures failed { OnErr result (Rose self.old.faults self.new.faults) }
         ensures still { OnOk result (self.new.faults ≡ self.old.faults) }
         ensures later { self.old.faults ≤ self.new.faults }
@@ -70,7 +70,8 @@ impl<W: WriterCalls> Sink for WriterSink<W> {
     }
 }
 
-// Writes some bytes from the front of a piece, and says how many. A writer that takes nothing of one has failed.
+// Writes some bytes from the front of a piece, and returns their number. To take nothing of a non-empty piece is a
+// failure.
 fn taken_by<W: WriterCalls>(writer: &mut W, piece: &[u8]) -> Result<usize, SinkFault>
     ensures count { IfOk result (IsCount piece.now) }
     ensures observed { Takes W.writes writer.old piece.now result writer.new }

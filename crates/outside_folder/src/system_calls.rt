@@ -1,4 +1,4 @@
-// What is asked of the system. What is answered isn't told, so that these calls are trusted.
+// The calls of the system. Their answers aren't observable, so these calls are trusted.
 ghost use Rattle.std.specs.Prelude.{List, Result, ℕ};
 ghost use Rattle.std.specs.Io.{ReadsAtMost, WritesAtMost};
 ghost use Rattle.std.specs.Io.KnownBytes.{WriteAppends};
@@ -15,7 +15,7 @@ use std::io::{self, Read, Write};
 use std::path::Path;
 use std::rt::Files;
 
-/// The calls on paths and on opened files, each with what may be answered.
+/// The calls on paths and on opened files, each with its possible answers.
 pub trait SystemCalls: Files + AllocGlobal + Clone + Drop {
     ghost opens: { Self → List ℕ → Result Self.File Error → Type 0 };
 
@@ -23,7 +23,7 @@ pub trait SystemCalls: Files + AllocGlobal + Clone + Drop {
 
     ghost finds: { Self → List ℕ → Result Metadata Error → Type 0 };
 
-    /// What a read of a file may give: some bytes, of which there are none at the end, or an error.
+    /// The possible results of a read: some bytes (none at the end of the file), or an error.
     ghost gives: { Self → Self.File → Result (List ℕ) Error → Self.File → Type 0 };
 
     /// Opens a file.
@@ -34,11 +34,11 @@ pub trait SystemCalls: Files + AllocGlobal + Clone + Drop {
     fn entries_at(&self, path: &str) -> io::Result<ReadDir<Self, Global>>
         ensures { lists self.now path.now result };
 
-    /// Finds out what is at a path.
+    /// Gets the metadata of what is at a path.
     fn metadata_at(&self, path: Path<'_>) -> io::Result<Metadata>
         ensures { finds self.now (path_bytes path.entry) result };
 
-    /// Reads some bytes of a file to the front of a buffer, and says how many.
+    /// Reads some bytes of a file into the front of a buffer, and returns their number.
     fn read_some(&self, file: &mut Self::File, buffer: &mut [u8]) -> io::Result<usize>
         ensures bound { ReadsAtMost result buffer.new }
         ensures observed { gives self.now file.old (bytes_given result buffer.new) file.new };
@@ -70,11 +70,11 @@ impl<R: Files + AllocGlobal + Clone + Drop> SystemCalls for R {
     }
 }
 
-/// A writer, with what it may answer to a piece.
+/// A writer, with its possible answers to a piece.
 pub trait WriterCalls: Write {
     ghost writes: { Self → List ℕ → Result ℕ Error → Self → Type 0 };
 
-    /// Writes some bytes from the front of a piece, and says how many.
+    /// Writes some bytes from the front of a piece, and returns their number.
     fn write_some(&mut self, piece: &[u8]) -> io::Result<usize>
         ensures bound { WritesAtMost result piece.now }
         ensures bytes { WriteAppends (Self.contents self.old) (Self.contents self.new) result piece.now }

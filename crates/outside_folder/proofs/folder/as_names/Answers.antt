@@ -1,4 +1,4 @@
--- the map's keys are in order, and so are the names that it gave
+-- the map's keys are in order, so the listed names are too
 use Rattle.std.proofs.Common.{rules, ◌≡◌, sym, subst}
 use Rattle.outside_folder.specs.Files.{as_names}
 use Rattle.outside_folder.specs.Folder.{IsInOrder}

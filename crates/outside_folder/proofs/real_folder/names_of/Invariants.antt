@@ -4,7 +4,7 @@ use Rattle.outside_folder.specs.declared.folder.Name.{Name}
 use Rattle.outside_folder.specs.RealFolder.{IsNameOf, by_text}
 use Rattle.outside_folder.proofs.real_folder.names_of.Given as goal
 
--- the entries so far had names, they are the ones that were taken, there are no more than those, and nothing has failed
+-- all entries so far have names, the map has these and no others, and nothing has failed
 abbrev pub invariant-loop-entry : goal.invariant-loop-entry
 invariant-loop-entry g l = record {
   taken : (names : List Name) × AllZip (IsNameOf (g.S.SystemCalls.finds l.system)) l.yielded names × (l.names.entries ≡ by_text names);

@@ -4,7 +4,7 @@ use Rattle.outside_folder.specs.Folder.{file_limit}
 use Rattle.outside_folder.specs.RealFolder.{GivesPieces, joined}
 use Rattle.outside_folder.proofs.real_folder.read_all.Given as goal
 
--- the bytes so far are those that reads gave, and nothing has failed
+-- the bytes so far are those of the reads, and nothing has failed
 abbrev pub invariant-loop-buffer : goal.invariant-loop-buffer
 invariant-loop-buffer g l = record {
   given : (pieces : List Bytes) × GivesPieces (g.S.SystemCalls.gives l.system) l.fn.file pieces l.file × (l.bytes.items ≡ joined pieces);

@@ -2,7 +2,7 @@ use Rattle.std.proofs.Common.{◌≡◌, ℕ, ◌-◌, ◌≤◌, List, length, 
 use Rattle.outside_folder.specs.Sink.{Appends, Offers}
 use Rattle.outside_folder.proofs.sink.write_all.Given as goal
 
--- what was written so far is the front of the text, and all that was left was offered at each turn
+-- a prefix of the text has been written, and each write was offered all that was left
 abbrev pub invariant-loop-written : goal.invariant-loop-written
 invariant-loop-written g l = record {
   within : l.written ≤ length l.text;
