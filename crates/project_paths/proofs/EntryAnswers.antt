@@ -1,4 +1,4 @@
--- Shared: what the entries of a project come to together.
+-- Shared: the answer for all entries of a project together.
 use Rattle.std.proofs.Common.{◌≡◌, List, [], ◌∷◌, ◌++◌, refl, sym, ap, ◌∙◌, append_assoc}
 use Rattle.std.specs.Prelude.{Result, Ok, Err}
 use Rattle.plan_types.specs.declared.project.ProjectEntry.{ProjectEntry}
@@ -20,7 +20,7 @@ none-then : (a : Result (List Bytes) Refusal) → a ≡ and_then (Ok []) a
 none-then (Err r) = refl
 none-then (Ok xs) = refl
 
--- the refusal of a step is that of the whole
+-- the refusal of a step is the refusal of the whole
 pub passed-on : {A B : Type 0} (P : Result A Refusal → Type 0) (Q : Result B Refusal → Type 0) → ((refusal : Refusal) → P (Err refusal) → Q (Err refusal))
     → (h : Halt) → Answers P (Err h) → Answers Q (Err h)
 passed-on P Q wider halt.NoMemory h = tt
@@ -39,11 +39,11 @@ module _ (files : Files) where
     whole : (r : Result (List Bytes) Refusal) → finished_of (and_then (all_files files a) (all_files files b)) ≡ r → Local r
     whole r e = sym e ∙ ap finished_of (sym (all-append a b))
 
-    -- the first entries are refused
+    -- one of the first entries is refused
     pub first-refused : (h : Halt) → Answers {A = List Bytes} (λ outcome. outcome ≡ all_files files a) (Err h) → Answers {A = List Bytes} Local (Err h)
     first-refused = passed-on (λ outcome. outcome ≡ all_files files a) Local (λ r is. whole (Err r) (ap (λ x. finished_of (and_then x (all_files files b))) (sym is)))
 
-    -- all are found
+    -- no entry is refused
     pub all-found : (found others : List Bytes) → Ok found ≡ all_files files a → Ok others ≡ all_files files b →
         (result : Result (List Bytes) Halt) → Settles (λ outcome. outcome ≡ finished (found ++ others)) result → Answers Local result
     all-found found others first more (Ok paths) is =

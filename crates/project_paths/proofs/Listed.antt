@@ -1,4 +1,4 @@
--- A name that stands in a list of names in byte order stands there once.
+-- A name is at most once in a list of names in byte order.
 use Rattle.std.proofs.Common.{◌≡◌, Bool, true, false, cond, List, [], ◌∷◌, ◌||◌, Option, Some, None, refl, sym, ap, ◌∙◌, subst, inl, inr}
 use Rattle.std.specs.Prelude.{filter, fold}
 use Rattle.std.specs.List.{AllByRecursion, list_any}
@@ -19,11 +19,11 @@ Entry = Bytes × Bool
 abbrev order : Bytes → Bytes → Ordering
 order = slice_cmp nat_cmp
 
--- a name before all of these
+-- the name is less than those of all these entries
 abbrev IsBelow : Bytes → List Entry → Type 0
 IsBelow name entries = AllByRecursion (λ entry. order name entry.0 ≡ Less) entries
 
--- in byte order, each once
+-- the names are in byte order, each once
 abbrev Rises : List Entry → Type 0
 Rises [] = Unit {0}
 Rises (e ∷ es) = IsBelow e.0 es × Rises es
@@ -102,12 +102,12 @@ module _ (key : Bytes) (folder : Bool) where
 
 -- ---- the names of a directory
 
--- whether these two are the same name
+-- whether an optional entry has this name
 abbrev pub is_named : Bytes → Option Entry → Bool
 is_named name None = false
 is_named name (Some entry) = same_text name entry.0
 
--- each of these paths goes on by the name as a directory's, or as a file's
+-- each path with this next name below the directory has it as a directory's, or each as a file's
 abbrev pub AreAlike : Bytes → Bytes → Bool → Files → Type 0
 AreAlike dir name folder files = AllByRecursion (λ file. (other : Bool) → name_in dir file.0 ≡ Some (name, other) → other ≡ folder) files
 
@@ -142,6 +142,6 @@ module _ (dir name : Bytes) (folder : Bool) where
       of-fold fs (step es f) (with-rises es (name_in dir f.0) h) like.1 ∙ ap (λ l. cond any ((name, folder) ∷ []) l) (with-of es (name_in dir f.0) h like.0)
       ∙ or-cond (is_named name (name_in dir f.0)) any ((name, folder) ∷ []) (of_name name es)
 
-  -- where all files go on by a name alike, it is listed once, and where none does, not at all
+  -- if the files are alike in a name, it is listed once, or not at all if no path has it
   pub of-names : (files : Files) → AreAlike dir name folder files → of_name name (names_in files dir) ≡ cond (list_any (λ file. is_named name (name_in dir file.0)) files) ((name, folder) ∷ []) []
   of-names files like = of-fold files [] tt like

@@ -1,5 +1,5 @@
--- A name is listed in a directory exactly where a file stands at its path or below it, as a file in the first case and as a
--- directory in the second.
+-- A name is listed in a directory iff a file is at its path or below it: as a file in the first case, as a directory
+-- in the second.
 use Rattle.std.proofs.Common.{◌≡◌, ℕ, Bool, true, false, cond, List, [], ◌∷◌, ◌&&◌, ◌||◌, length, map, Option, Some, None, refl, sym, ap, ◌∙◌, subst, arith, length-append, inl, inr}
 use Rattle.std.specs.Prelude.{filter, fold, is_some, not, ◌==◌, unwrap_or}
 use Rattle.std.specs.List.{list_all, list_any}
@@ -123,7 +123,7 @@ or-none : (t : Bool) → (t || false) ≡ t
 or-none true = refl
 or-none false = refl
 
--- something is listed in a directory other than the root where a path lies in it
+-- a directory other than the root has names iff a path is below it
 some-under : (files : Files) (b : ℕ) (bs : Bytes) → has_some (entries_in files (b ∷ bs)) ≡ list_any (λ file. is_under (b ∷ bs) file.0) files
 some-under files b bs = fold-some (b ∷ bs) files [] ∙ or-none (list_any (λ file. is_some (name_in (b ∷ bs) file.0)) files) ∙ same files
   where
@@ -143,7 +143,7 @@ not-under-itself path = elim (cases_Bool (is_under path path)) [
   | inr f ↦ f
 ]
 
--- what clashes with no file doesn't clash with the file that stands at a path
+-- a path that clashes with no file doesn't clash with the path of one
 apart-from : (one path : Bytes) (files : Files) → list_any (λ other. clashes one other.0) files ≡ false → is_some (file_at files path) ≡ true → clashes one path ≡ false
 apart-from one path [] h t = absurd (false≢true t)
 apart-from one path (f ∷ fs) h t = by (apart-from one path fs parts.1) (same_text f.0 path) refl t
@@ -194,13 +194,13 @@ none-some : (entries : List (Bytes × Bool)) → has_some entries ≡ false → 
 none-some [] h = refl
 none-some (e ∷ es) h = let some : has_some (e ∷ es) ≡ true = grind arith in absurd (false≢true (sym h ∙ some))
 
--- nothing is listed in a file
+-- no names are listed at a file's path
 pub none-in-file : (files : Files) (path : Bytes) → is_tree files ≡ true → is_some (file_at files path) ≡ true → names_in files path ≡ []
 none-in-file files [] tree t = absurd (false≢true (sym (no-root-file files tree) ∙ t))
 none-in-file files (b ∷ bs) tree t =
     listed-names files (b ∷ bs) ∙ ap as_names (none-some (entries_in files (b ∷ bs)) (some-under files b bs ∙ none-under-file files (b ∷ bs) tree t))
 
--- a directory other than the root is there where a path lies in it
+-- a directory other than the root is there iff a path is below it
 folder-if : (path : Bytes) → not (length path == 0) ≡ true → (files : Files) → unless_empty path (names_in files path) ≡ cond (list_any (λ file. is_under path file.0) files) (directory path ∷ []) []
 folder-if [] h files = absurd (false≢true h)
 folder-if (b ∷ bs) h files =
@@ -210,7 +210,7 @@ folder-if (b ∷ bs) h files =
     by [] = refl
     by (e ∷ es) = let some : has_some (e ∷ es) ≡ true = grind arith in sym (ap (λ t. cond t (directory (b ∷ bs) ∷ []) []) some)
 
--- ---- what stands at the path of a plain name in a directory
+-- ---- the place at the path of a plain name in a directory
 
 module _ (dir name : Bytes) (plain : list_all is_plain name ≡ true) where
   abbrev path : Bytes
@@ -219,7 +219,7 @@ module _ (dir name : Bytes) (plain : list_all is_plain name ≡ true) where
   abbrev names_it : Bytes × Bytes → Bool
   names_it file = is_named name (name_in dir file.0)
 
-  -- where a path that goes on otherwise is one that no file has
+  -- if only wrong paths have the name otherwise, and no file has a wrong path, the files are alike in it
   alike : (wrong : Bytes → Bool) (folder : Bool) → ((one : Bytes) (other : Bool) → wrong one ≡ false → name_in dir one ≡ Some (name, other) → other ≡ folder) →
       (files : Files) → list_any (λ file. wrong file.0) files ≡ false → AreAlike dir name folder files
   alike wrong folder is [] h = tt
@@ -285,7 +285,7 @@ module _ (dir name : Bytes) (plain : list_all is_plain name ≡ true) where
   one-place true folder = refl
   one-place false folder = refl
 
-  -- what stands at its path is what it matches in the directory
+  -- the place at its path is the one that it matches in the directory
   pub literal-below : (files : Files) → is_tree files ≡ true → not (length name == 0) ≡ true → standing files path ≡ below files name (directory dir)
   literal-below files tree some = by (is_some (file_at files path)) refl
     where

@@ -1,4 +1,4 @@
--- A path is that of a `.cabal` file where its last name is.
+-- A path ends in `.cabal` only if its last name does.
 use Rattle.std.proofs.Common.{◌≡◌, ℕ, suc, zero, Bool, true, false, List, [], ◌∷◌, ◌++◌, ◌+◌, ◌-◌, ◌≤◌, ◌<◌, ◌⊎◌, length, drop, get_or, map, codes, refl, sym, ap, ◌∙◌, subst, inl, inr, arith, length-append, length-drop, get_or-drop}
 use Rattle.std.specs.Prelude.{filter, not, ◌&&◌}
 use Rattle.std.specs.List.{list_all}
@@ -74,7 +74,7 @@ in-dir (b ∷ bs) name h = elim (cases_Bool (is_cabal (path_in (b ∷ bs) name))
   | inr f ↦ f
 ]
 
--- a path whose last name was taken as it stands is that of no `.cabal` file
+-- a path whose last name is a literal name that isn't looked up doesn't end in `.cabal`
 pub taken-looked-up : (dir name : Bytes) → is_taken name ≡ true → list_all is_looked_up (Literal (path_in dir name) ∷ []) ≡ true
 taken-looked-up dir name h =
     let none = not-true (is_cabal name) (and_parts (is_literal name) (not (is_cabal name)) h).1 in

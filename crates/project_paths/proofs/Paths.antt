@@ -1,4 +1,4 @@
--- By which name a path goes on from a directory.
+-- The next name of a path below a directory.
 use Rattle.std.proofs.Common.{◌≡◌, ℕ, ◌+◌, ◌<◌, ◌≤◌, Bool, true, false, cond, [], ◌∷◌, ◌++◌, length, take, drop, get_or, Option, Some, None, refl, sym, ap, ◌∙◌, arith, append_assoc, nat_lt, length-append, append-nil}
 use Rattle.std.specs.Prelude.{is_some, ◌==◌, not, ◌&&◌, option_and_then}
 use Rattle.std.specs.List.{list_all, position_or_len}
@@ -24,7 +24,7 @@ plain-byte b h =
 
 -- ---- the first name of a path
 
--- the first slash isn't in a plain name
+-- the first slash is behind a plain name
 slash-behind : (name rest : Bytes) → list_all is_plain name ≡ true → position_or_len is_slash (name ++ rest) ≡ length name + position_or_len is_slash rest
 slash-behind [] rest h = omega arith
 slash-behind (b ∷ bs) rest h =
@@ -72,7 +72,7 @@ name-before path name h =
     is-slash : (b : ℕ) → is_slash b ≡ true → b ≡ slash
     is-slash b e = grind (arith, nat_tests)
 
--- ---- what is in a directory
+-- ---- paths below a directory
 
 abbrev inside_if : Bytes → Bytes → Bool → Option Bytes
 inside_if dir path t = option_and_then (after (slash ∷ [])) (cond t (Some (drop (length dir) path)) None)
@@ -108,7 +108,7 @@ mapped : {X Y : Type 0} (f : X → Y) (o : Option X) (y : Y) → option_map f o 
 mapped f None y h = absurd (cc h)
 mapped f (Some x) y h = (x, refl, cc h)
 
--- ---- the name by which a path goes on
+-- ---- the next name of a path
 
 module _ (name : Bytes) where
   pub file-named : (dir : Bytes) → list_all is_plain name ≡ true → name_in dir (path_in dir name) ≡ Some (name, false)

@@ -1,4 +1,4 @@
--- The pieces of a pattern match what the pattern does.
+-- The pieces of a pattern match the same names as the pattern.
 use Rattle.std.proofs.Common.{◌≡◌, ◌≢◌, ℕ, ◌≤◌, Bool, true, false, cond, ◌&&◌, ◌||◌, List, [], ◌∷◌, ◌++◌, length, Option, Some, None, refl, sym, ap, ◌∙◌, append_assoc, arith, if◌then◌else◌, Bor}
 use Rattle.std.specs.Prelude.{◌==◌, nat_eq}
 use Rattle.std.specs.List.{ends_with, list_any, onto_first}
@@ -65,12 +65,12 @@ no-front piece text never = by (behind_front piece text) refl
     by None e = refl
     by (Some rest) e = absurd (never rest (front-is piece text rest e))
 
--- what taking a prefix off comes to
+-- to strip a prefix is `behind_front`
 pub stripped : (piece text : List ℕ) (found : Option (Bor (List ℕ))) → MatchOption found ((rest : List ℕ) → text ≢ piece ++ rest) (λ rest. text ≡ piece ++ rest.now) → option_copied found ≡ behind_front piece text
 stripped piece text None is = sym (no-front piece text is)
 stripped piece text (Some rest) is = sym (ap (behind_front piece) is ∙ is-front piece rest.now)
 
--- ---- the first place of a piece leaves the most
+-- ---- the first occurrence of a piece leaves the most
 
 rest-of : (piece rest front tail : List ℕ) → piece ++ rest ≡ front ++ tail → length piece ≤ length front → (between : List ℕ) × (rest ≡ between ++ tail)
 rest-of [] rest front tail e le = (front, e)
@@ -116,7 +116,7 @@ module _ (test : List ℕ → Bool) (more : (b : ℕ) (bs : List ℕ) → test b
       by after None e = after
       by after (Some rest) e = absorbed (test rest) (list_any (from piece) (tails bs)) (later piece b bs rest e)
 
--- what pieces behind a star match is what they match anywhere
+-- pieces behind a star match a text iff they match a suffix of it
 behind-any : (piece : List ℕ) (pieces : List (List ℕ)) (text : List ℕ) → match_behind (piece ∷ pieces) text ≡ list_any (match_pieces (piece ∷ pieces)) (tails text)
 behind-any piece [] text = refl
 behind-any piece (next ∷ pieces) text = greedy (match_behind (next ∷ pieces)) (more (behind-any next pieces)) piece text
@@ -167,7 +167,7 @@ fits-pieces (p ∷ ps) text = by (λ i text. fits-pieces ps text i) (p == 42) re
         ap (λ pieces. match_pieces pieces text) (slice_split-cons_no (λ b. b == 42) p ps e) ∙ byte p (cut ps) text (never-none ps)
         ∙ ap (λ test. fits_byte p test text) rest ∙ fits-other p ps text e
 
--- ---- pieces of which the first is taken off
+-- ---- one step: the first of several pieces is matched
 
 pub first-behind : (piece : List ℕ) (pieces : List (List ℕ)) (text : List ℕ) → (pieces ≡ [] → ⊥) → match_behind (piece ∷ pieces) text ≡ passes (match_behind pieces) (behind piece text)
 first-behind piece [] text never = absurd (never refl)

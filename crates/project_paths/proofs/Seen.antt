@@ -1,4 +1,4 @@
--- What spots turn out to be, one name further, and what is found there.
+-- The places of spots after one more name, and the local files there.
 use Rattle.std.proofs.Common.{◌≡◌, Bool, true, false, cond, List, [], ◌∷◌, ◌++◌, ◌&&◌, length, map, Option, Some, None, refl, sym, ap, ◌∙◌, subst, append-nil, arith}
 use Rattle.std.specs.Prelude.{filter, flat_map, is_some, not, ◌==◌, Result, Ok, Err, IfOk, IfSome}
 use Rattle.std.proofs.lemmas.Bool.{and_parts, false≢true, not-true}
@@ -20,7 +20,7 @@ use Rattle.project_paths.specs.declared.spots.Spot.{Spot}
 use Rattle.project_paths.specs.declared.spots.Spot.TheVariants.{Listed, Literal}
 use Rattle.project_paths.proofs.Literal.{literal-below, none-in-file}
 
--- ---- one name further
+-- ---- one more name
 
 -- a literal name leads to its path
 pub leads-literal : (files : Files) (dir name : Bytes) → is_literal name ≡ true → Leads files (Literal (path_in dir name) ∷ []) (below files name (directory dir))
@@ -28,7 +28,7 @@ leads-literal files dir name h tree =
     let both = and_parts (not (length name == 0)) _ h in
     append-nil (standing files (path_in dir name)) ∙ literal-below dir name both.1 files tree both.0
 
--- what a listing told is as it is
+-- listed spots are their own places
 listed-seen : (files : Files) (dir : Bytes) (names : List Name) → flat_map (seen files) (map (λ name. Listed (place_in dir name)) names) ≡ map (place_in dir) names
 listed-seen files dir [] = refl
 listed-seen files dir (n ∷ ns) = ap (λ l. place_in dir n ∷ l) (listed-seen files dir ns)
@@ -36,7 +36,7 @@ listed-seen files dir (n ∷ ns) = ap (λ l. place_in dir n ∷ l) (listed-seen 
 pub leads-listed : (files : Files) (dir pattern : Bytes) → Leads files (map (λ name. Listed (place_in dir name)) (filter (is_matched pattern) (names_in files dir))) (below files pattern (directory dir))
 leads-listed files dir pattern tree = listed-seen files dir (filter (is_matched pattern) (names_in files dir))
 
--- what is below a spot is what is below its directory
+-- the places below a spot are those below its directory
 pub below-seen : (files : Files) (pattern : Bytes) (spot : Spot) (dir : Bytes) → is_tree files ≡ true → dir_of spot ≡ Some dir → flat_map (below files pattern) (seen files spot) ≡ below files pattern (directory dir)
 below-seen files pattern (Listed place) dir tree is = by place.folder refl is
   where
@@ -63,13 +63,13 @@ below-seen files pattern (Literal path) dir tree is =
     by false t = empty (names_in files path) refl
 
 module _ (tells : Option Files) (pattern : Bytes) (spot : Spot) (dir : Bytes) (is : dir_of spot ≡ Some dir) where
-  -- where its directory leads, a spot leads
+  -- spots that lead to the places below the directory lead to those below the spot
   pub leads-spot : {E : Type 0} (result : Result (List Spot) E) → IfSome tells (λ files. IfOk result (λ found. Leads files found (below files pattern (directory dir))))
       → IfSome tells (λ files. IfOk result (λ found. Leads files found (flat_map (below files pattern) (seen files spot))))
   leads-spot (Err e) h = if_some _ tells (λ files t. tt)
   leads-spot (Ok found) h = if_some _ tells (λ files t tree. some_at (λ files. Leads files found (below files pattern (directory dir))) tells files t h tree ∙ sym (below-seen files pattern spot dir tree is))
 
--- ---- what is found
+-- ---- the local files of a spot
 
 abbrev Alike : Bool → Files → Spot → List Bytes → Type 0
 Alike folders files spot found = Finds files folders spot (found_files (path_of spot) found)
@@ -84,7 +84,7 @@ finds-file folders files (Listed place) h tree = by place.folder refl h
     by false f h = ap (λ fs. filter has_files (found_files place.path fs ∷ [])) (sym (ap (λ t. cond t (cabal_in place.path (names_at files place)) (cond (is_local folders place.path) (place.path ∷ []) [])) f ∙ ap (λ t. cond t (place.path ∷ []) []) h))
 finds-file folders files (Literal path) h tree = absurd (false≢true h)
 
--- the spot is no directory and no local file
+-- the spot is neither a directory nor a local file
 pub finds-none : (folders : Bool) (files : Files) (spot : Spot) → is_local_file folders spot ≡ false → dir_of spot ≡ None → Alike folders files spot []
 finds-none folders files (Listed place) h is tree = by place.folder refl h is
   where
@@ -130,7 +130,7 @@ finds-in folders files (Literal path) dir looked h is tree =
     by false t = empty (names_in files path) refl
 
 module _ (tells : Option Files) (folders : Bool) (spot : Spot) (dir : Bytes) (is : dir_of spot ≡ Some dir) where
-  -- what is found in its directory is found at a spot
+  -- the local files in the spot's directory are those of the spot
   pub found-spot : {E : Type 0} → is_looked_up spot ≡ true → is_local_file folders spot ≡ false → (result : Result (List Bytes) E)
       → IfSome tells (λ files. IfOk result (λ found. found ≡ cabal_in dir (names_in files dir))) → IfSome tells (λ files. IfOk result (Alike folders files spot))
   found-spot looked other (Err e) h = if_some _ tells (λ files t. tt)
@@ -138,7 +138,7 @@ module _ (tells : Option Files) (folders : Bool) (spot : Spot) (dir : Bytes) (is
       subst (Alike folders files spot) (sym (some_at (λ files. found ≡ cabal_in dir (names_in files dir)) tells files t h))
       (finds-in folders files spot dir looked other is))
 
--- ---- what an entry comes to
+-- ---- the answer for an entry
 
 crowded-has : (found : FoundFiles) → has_files found ≡ false → is_crowded found ≡ false
 crowded-has found h = by found.files h
@@ -172,7 +172,7 @@ judged-has entry all =
     ap (λ crowded. unless_crowded (least (map (λ f. f.path) crowded)) entry (flat_map (λ f. f.files) all)) (crowded-same all)
     ∙ ap (unless_crowded (first_crowded (filter has_files all)) entry) (files-same all)
 
--- what has no files doesn't count
+-- places without local files don't change the answer
 judged-same : (entry : ProjectEntry) (all found : List FoundFiles) → filter has_files all ≡ filter has_files found → judged entry all ≡ judged entry found
 judged-same entry all found same = judged-has entry all ∙ ap (judged entry) same ∙ sym (judged-has entry found)
 

@@ -21,7 +21,7 @@ last-bare : (b : ℕ) (t : Bool) → (b == 47) ≡ t → (((front : List ℕ) �
 last-bare b true e never = absurd (never [] (ap (λ n. n ∷ []) (eqb-true b 47 e)))
 last-bare b false e never = (refl, refl)
 
--- no slash at its end
+-- a text without a slash at its end
 pub bare : (text : List ℕ) → ((front : List ℕ) → text ≢ front ++ 47 ∷ []) → Bare text
 bare [] never = (refl, refl)
 bare (b ∷ []) never = last-bare b (b == 47) refl never

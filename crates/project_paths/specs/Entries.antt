@@ -1,4 +1,4 @@
--- What an entry of a project comes to.
+-- The local files of an entry of a project, or its refusal.
 use Rattle.std.specs.Prelude.{Bool, if◌then◌else◌, nat_le, List, [], ◌∷◌, length, codes, map, filter, flat_map, fold, Option, Some, None, Result, Ok, Err}
 use Rattle.std.specs.Cmp.Lexicographic.{slice_cmp}
 use Rattle.std.specs.Ordering.{is_lt, nat_cmp}
@@ -20,39 +20,39 @@ refusal_of entry cause detail = record { path = entry.path; line = entry.line; c
 abbrev pub is_crowded : FoundFiles → Bool
 is_crowded found = nat_le 2 (length found.files)
 
--- the lesser of two paths
+-- the lesser of two paths in byte order; the first may be missing
 abbrev pub lesser : Option Bytes → Bytes → Bytes
 lesser None path = path
 lesser (Some first) path = if is_lt (slice_cmp nat_cmp path first) then path else first
 
--- the first of these in byte order
+-- the first of these paths in byte order
 abbrev pub least : List Bytes → Option Bytes
 least paths = fold (λ first path. Some (lesser first path)) None paths
 
--- the first such directory
+-- the first directory in byte order with two local files or more
 abbrev pub first_crowded : List FoundFiles → Option Bytes
 first_crowded found = least (map (λ f. f.path) (filter is_crowded found))
 
--- the root is a point
+-- a directory's path as it is printed: `.` for the root
 abbrev pub shown : Bytes → Bytes
 shown [] = codes "."
 shown (b ∷ bs) = b ∷ bs
 
--- an entry that isn't optional has to give a file
+-- the local files; a refusal if there are none and the entry isn't optional
 abbrev pub unless_none : ProjectEntry → List Bytes → Result (List Bytes) Refusal
 unless_none entry [] = if entry.optional then Ok [] else Err (refusal_of entry NoMatch entry.text)
 unless_none entry (path ∷ paths) = Ok (path ∷ paths)
 
--- the local files, where no directory has several
+-- a refusal if a directory has several local files; otherwise as above
 abbrev pub unless_crowded : Option Bytes → ProjectEntry → List Bytes → Result (List Bytes) Refusal
 unless_crowded None entry paths = unless_none entry paths
 unless_crowded (Some dir) entry paths = Err (refusal_of entry TwoCabalFiles (shown dir))
 
--- what is found comes to this
+-- the local files at the places found, or a refusal
 abbrev pub judged : ProjectEntry → List FoundFiles → Result (List Bytes) Refusal
 judged entry found = unless_crowded (first_crowded found) entry (flat_map (λ f. f.files) found)
 
--- what is found by a pattern comes to this
+-- the local files of a pattern, or a refusal; without a pattern, the entry is unsupported
 abbrev pub files_by : Files → ProjectEntry → Option Pattern → Result (List Bytes) Refusal
 files_by files entry None = Err (refusal_of entry Unsupported [])
 files_by files entry (Some pattern) = judged entry (found_by files pattern)

@@ -1,4 +1,4 @@
--- What the definitions give on small folders.
+-- Examples of the definitions on small folders.
 use Rattle.std.specs.Prelude.{◌≡◌, refl, true, false, [], ◌∷◌, codes, Bool, Some, None, Ok, Err}
 use Rattle.plan_types.specs.declared.project.ProjectEntry.{ProjectEntry}
 use Rattle.plan_types.specs.declared.refusal.Cause.TheVariants.{NoMatch, TwoCabalFiles}

@@ -10,7 +10,7 @@ use Rattle.project_paths.specs.declared.spots.Spot.{Spot}
 use Rattle.project_paths.specs.declared.spots.Spot.TheVariants.{Listed, Literal}
 use Rattle.project_paths.specs.Spots.{is_cabal, seen}
 
--- whether it is that of a file
+-- whether a name is that of a `.cabal` file, and not of a directory
 abbrev pub is_cabal_file : Name → Bool
 is_cabal_file name = not name.folder && is_cabal name.text
 
@@ -18,36 +18,35 @@ is_cabal_file name = not name.folder && is_cabal name.text
 abbrev pub cabal_in : Bytes → List Name → List Bytes
 cabal_in dir names = map (λ name. path_in dir name.text) (filter is_cabal_file names)
 
--- whether a file at a path is a local one: it ends in `.cabal`, and not directories alone are meant
+-- whether a file at a path is a local one: it ends in `.cabal`, and the pattern isn't for directories only
 abbrev pub is_local : Bool → Bytes → Bool
 is_local folders path = not folders && is_cabal path
 
--- the local files at a place
+-- the local files at a place: the `.cabal` files in a directory, or the file itself if it is a local one
 abbrev pub files_of : Bool → FolderPlace → List Name → List Bytes
 files_of folders place names = if place.folder then cabal_in place.path names else if is_local folders place.path then place.path ∷ [] else []
 
--- what is found at a place
+-- a place's path and local files
 abbrev pub found_at : Files → Bool → FolderPlace → FoundFiles
 found_at files folders place = record { path = place.path; files = files_of folders place (names_at files place) }
 
--- what is found by a pattern
+-- the places of a pattern with their local files
 abbrev pub found_by : Files → Pattern → List FoundFiles
 found_by files pattern = map (found_at files pattern.folders) (places files pattern.names)
 
--- whether anything was found at a place
+-- whether a place has local files
 abbrev pub has_files : FoundFiles → Bool
 has_files found = not (length found.files == 0)
 
--- these files at a path
+-- a path with these local files
 abbrev pub found_files : Bytes → List Bytes → FoundFiles
 found_files path files = record { path = path; files = files }
 
--- Where the files make a tree, this is what is found at the places that a spot turns out to be. A place without a local file
--- counts for nothing.
+-- If the files form a tree, these are the local files at the places of a spot. Places without a local file don't count.
 abbrev pub Finds : Files → Bool → Spot → FoundFiles → Type 0
 Finds files folders spot found = IsTrue (is_tree files) → filter has_files (found ∷ []) ≡ filter has_files (map (found_at files folders) (seen files spot))
 
--- whether a spot is a local file itself, which a listing told
+-- whether a spot is a listed place that is a local file
 abbrev pub is_local_file : Bool → Spot → Bool
 is_local_file folders (Listed place) = not place.folder && is_local folders place.path
 is_local_file folders (Literal path) = false

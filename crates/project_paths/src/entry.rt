@@ -1,4 +1,4 @@
-// One entry: what is found by it, and whether that is right.
+// The local files of one entry, or its refusal.
 ghost use Rattle.std.specs.Prelude.{◌≡◌, flat_map, IfOk, IfSome, OnOk, IsErrOf};
 ghost use Rattle.std.specs.Option.{option_copied};
 ghost use Rattle.outside_folder.specs.Calls.{Leaves};
@@ -108,7 +108,7 @@ fn lesser<'a>(first: Option<&'a Text>, path: &'a Text) -> &'a Text
     }
 }
 
-// The root is a point.
+// A directory's path as it is printed: `.` for the root.
 fn shown(alloc: Global, dir: &Text) -> Result<Text, NoMemory>
     ensures { IfOk result (λ text. text ≡ shown dir.now) }
 {

@@ -15,11 +15,11 @@ use plan_types::{Cause, Halt, List, NoMemory, Project, ProjectEntry, Refusal, Te
 use std::alloc::Global;
 use std::collections::BTreeSet;
 
-/// The paths of the local files that the entries of a project give, in byte order, each once; or the first refusal.
+/// The paths of a project's local files in byte order, each once; or the first refusal.
 ///
-/// Where there is no `cabal.project`, the `.cabal` files in the root come in front, of which there may be none. No
-/// directory is listed twice, and no file is read. A directory is listed for a name with a star, and for one that ends
-/// in `.cabal`.
+/// `implicit` means that there is no `cabal.project`: the optional entry `./*.cabal` comes first. No directory is
+/// listed twice, and no file is read. A directory is listed for a name with a star, for one that ends in `.cabal`,
+/// and for the `.cabal` files in it.
 pub fn find_packages<F: Folder>(
     alloc: Global,
     project: &Project,

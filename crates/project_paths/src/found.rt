@@ -1,4 +1,4 @@
-// The local files to which a pattern leads.
+// The local files of a pattern.
 ghost use Rattle.std.specs.Prelude.{◌≡◌, ◌∷◌, [], ◌++◌, ◌&&◌, map, filter, not, IfOk, IfSome, OnOk, IsErrOf, IsTrue};
 ghost use Rattle.outside_folder.specs.Calls.{Leaves};
 ghost use Rattle.outside_folder.specs.Files.{is_tree};
@@ -14,14 +14,14 @@ use outside_folder::{Folder, Name, Trouble};
 use plan_types::{List, NoMemory, Text};
 use std::alloc::Global;
 
-/// A place, and the paths of its local files: itself, or the `.cabal` files in it.
+/// A path, and the paths of the local files there: the path itself, or the `.cabal` files in it.
 #[derive(Debug, Drop)]
 pub(crate) struct FoundFiles {
     pub path: Text,
     pub files: List<Text>,
 }
 
-/// What is found by a pattern. What gives no file counts for nothing in it.
+/// The places of a pattern with their local files. Only the places with local files are sure to be the defined ones.
 pub(crate) fn found_by<F: Folder>(
     alloc: Global,
     pattern: &Pattern,
@@ -88,7 +88,7 @@ fn files_at<F: Folder>(
     }
 }
 
-// Whether a spot is a local file itself.
+// Whether a spot is a listed place that is a local file.
 fn is_local_file(folders: bool, spot: &Spot) -> bool
     ensures { result ≡ is_local_file folders spot.now }
 {

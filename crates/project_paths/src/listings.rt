@@ -1,4 +1,4 @@
-// The names in the directories of a folder, each of which is listed once.
+// The names in a folder's directories. Each directory is listed at most once.
 ghost use Rattle.std.specs.Prelude.{◌≡◌, List, ℕ, Option, IfOk, IfSome, OnOk, IsErrOf, IsTrue};
 ghost use Rattle.outside_folder.specs.Calls.{Leaves};
 ghost use Rattle.outside_folder.specs.Files.{Files, is_tree};
@@ -9,7 +9,7 @@ use outside_folder::{Folder, Name, Trouble, list_names};
 use plan_types::{List, NoMemory, Text};
 use std::alloc::Global;
 
-/// The names in the directories that were listed so far.
+/// The names in the directories listed so far, by path.
 #[derive(Debug)]
 pub(crate) struct Listings {
     pub by_dir: IndexMap<Text, List<Name>>,

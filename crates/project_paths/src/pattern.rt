@@ -1,4 +1,4 @@
-// The text of an entry: names, in which a star stands for any bytes.
+// The pattern of an entry's text: names, in which a star matches any bytes.
 ghost use Rattle.std.specs.Prelude.{◌≡◌, ◌||◌, ◌==◌, filter, map, IfOk};
 ghost use Rattle.std.specs.List.{list_any, slice_split};
 ghost use Rattle.plan_types.specs.Bytes.{begins_with, same_text};
@@ -7,16 +7,16 @@ ghost use Rattle.project_paths.specs.Patterns.{ends_in_slash, has, has_brace, ha
 use plan_types::{List, NoMemory, Text};
 use std::alloc::{AllocError, Global};
 
-/// What an entry asks for.
+/// The pattern of an entry.
 #[derive(Debug, Drop)]
 pub(crate) struct Pattern {
-    /// Those of the directories on the way, and of what is meant.
+    /// The names of the directories from the root down, and last of the files or directories searched for.
     pub names: List<Text>,
-    /// Whether it means directories alone.
+    /// Whether it is for directories only.
     pub folders: bool,
 }
 
-/// The pattern of a text; none where Cabal would look elsewhere than this planner.
+/// The pattern of a text; `None` if it isn't supported, because Cabal would search elsewhere for it.
 pub(crate) fn pattern_of(alloc: Global, text: &str) -> Result<Option<Pattern>, NoMemory>
     ensures { IfOk result (λ found. found ≡ pattern_of text.now) }
 {

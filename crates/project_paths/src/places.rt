@@ -1,4 +1,4 @@
-// What a listing tells: the files and directories in a directory.
+// The places of a listing: the files and directories in a directory.
 ghost use Rattle.std.specs.Prelude.{◌≡◌, [], IfOk};
 ghost use Rattle.project_paths.specs.Places.{path_in, place_in, root};
 
@@ -23,7 +23,7 @@ pub(crate) fn root(alloc: Global) -> FolderPlace
     }
 }
 
-/// What has this name in a directory.
+/// The place of a name in a directory.
 pub(crate) fn place_in(dir: &Text, name: &Name) -> Result<FolderPlace, NoMemory>
     ensures { IfOk result (λ place. place ≡ place_in dir.now name.now) }
 {
@@ -34,7 +34,7 @@ pub(crate) fn place_in(dir: &Text, name: &Name) -> Result<FolderPlace, NoMemory>
     })
 }
 
-/// The path of what has this name in a directory.
+/// The path of a name in a directory.
 pub(crate) fn path_in(dir: &Text, name: &Text) -> Result<Text, NoMemory>
     ensures { IfOk result (λ path. path ≡ path_in dir.now name.now) }
 {
@@ -42,7 +42,7 @@ pub(crate) fn path_in(dir: &Text, name: &Text) -> Result<Text, NoMemory>
     longer_path(path, name)
 }
 
-/// The same, of the path of a directory that isn't used again: many names behind each other are put to one text.
+/// The same, but it consumes the directory's path, so a sequence of names is appended to one text.
 pub(crate) fn longer_path(dir: Text, name: &Text) -> Result<Text, NoMemory>
     ensures { IfOk result (λ path. path ≡ path_in dir name.now) }
 {

@@ -1,5 +1,5 @@
-// Where the names of a pattern lead. A name without a star is taken as it stands, and its directory isn't listed for it,
-// unless it ends in `.cabal`: whether such a file is there is told by a listing, so that no file is read to find it.
+// Where the names of a pattern lead. A literal name isn't looked up in a listing, unless it ends in `.cabal`. Then the
+// listing shows whether the file is there, so that no file is read to find it.
 ghost use Rattle.std.specs.Prelude.{◌≡◌, ◌∷◌, [], ◌&&◌, not, map, filter, flat_map, IfOk, IfSome, OnOk, IsErrOf, IsTrue};
 ghost use Rattle.std.specs.List.{list_all};
 ghost use Rattle.std.specs.Option.{option_copied};
@@ -15,12 +15,12 @@ use outside_folder::{Folder, Name, Trouble};
 use plan_types::{List, NoMemory, Text};
 use std::alloc::Global;
 
-/// Where the names of a pattern lead.
+/// Where the names of a pattern lead: a place, or a path that wasn't looked up.
 #[derive(Debug, Drop)]
 pub(crate) enum Spot {
-    /// A listing told what stands there.
+    /// A file or directory from a listing, or the root.
     Listed(FolderPlace),
-    /// A path whose last name was taken as it stands: a file, a directory or nothing.
+    /// A path whose last name is a literal name that isn't looked up: a file, a directory or nothing.
     Literal(Text),
 }
 
@@ -34,7 +34,7 @@ impl Spot {
         }
     }
 
-    /// The path of the directory that stands there, or may.
+    /// The path, if the spot is or may be a directory.
     pub fn dir(&self) -> Option<&Text>
         ensures { option_copied result ≡ dir_of self.now }
     {
@@ -50,7 +50,7 @@ impl Spot {
         }
     }
 
-    /// The same path, of a spot that isn't used again.
+    /// The same, but it consumes the spot.
     fn into_dir(self) -> Option<Text>
         ensures { result ≡ dir_of self }
     {
@@ -61,7 +61,7 @@ impl Spot {
     }
 }
 
-/// The spots to which names lead from the root.
+/// The spots to which the names lead from the root.
 pub(crate) fn spots<F: Folder>(
     alloc: Global,
     names: &[Text],
@@ -174,7 +174,7 @@ pub(crate) fn is_cabal(name: &Text) -> bool
     name.as_bytes().ends_with(b".cabal")
 }
 
-// A name that matches itself alone.
+// Whether a name matches itself alone.
 fn is_literal(name: &Text) -> bool
     ensures { result ≡ is_literal name.now }
 {
@@ -188,7 +188,7 @@ fn are_plain(bytes: &[u8]) -> bool
     bytes.iter().all(|byte| is_plain(*byte))
 }
 
-// No name in a directory has a slash, and the system takes no path with a NUL.
+// No name in a directory has a slash, and no path of the system has a NUL.
 fn is_plain(byte: u8) -> bool
     ensures { result ≡ is_plain byte }
 {

@@ -1,5 +1,6 @@
-// Whether a pattern matches a name. It is cut at its stars: the first piece stands in front, the last one at the end,
-// and each of the others is looked for behind the one before it. Its first place leaves the most to those behind it.
+// Whether a pattern matches a name. The pattern is cut at its stars. The first piece has to be a prefix of the name,
+// the last one a suffix. Each other piece is searched for behind the one before it: its first occurrence leaves the
+// most for the rest.
 ghost use Rattle.std.specs.Prelude.{◌≡◌, ℕ, List, map, IfOk};
 ghost use Rattle.std.specs.Option.{option_copied};
 ghost use Rattle.plan_types.specs.Bytes.{begins_with};
@@ -15,8 +16,7 @@ pub(crate) fn cut(alloc: Global, pattern: &str) -> Result<Vec<&str>, AllocError>
     pattern.split('*').collect(alloc)
 }
 
-/// Whether a pattern, of which these are the pieces, matches a name. A name that begins with a point is matched only
-/// where the pattern begins with one, too.
+/// Whether a pattern with these pieces matches a name. A name that begins with `.` needs a pattern that does.
 pub(crate) fn matches(pattern: &[u8], pieces: &[&str], name: &[u8]) -> bool
     requires { map (λ piece. piece.now) pieces.now ≡ cut pattern.now }
     ensures { result ≡ matches pattern.now name.now }
@@ -55,7 +55,7 @@ fn match_pieces(pieces: &[&str], name: &[u8]) -> bool
     }
 }
 
-// Whether pieces match that each stand behind a star.
+// Whether pieces match, each of them behind a star.
 fn match_behind(pieces: &[&str], name: &[u8]) -> bool
     ensures { result ≡ match_behind (map (λ piece. piece.now) pieces.now) name.now }
 {
@@ -80,7 +80,7 @@ fn ends_so(piece: &[u8], text: &[u8]) -> bool
     text.ends_with(piece)
 }
 
-// What is behind the first place of a piece.
+// The rest of a text after the first occurrence of a piece.
 fn behind<'a>(piece: &[u8], text: &'a [u8]) -> Option<&'a [u8]>
     ensures { option_copied result ≡ behind piece.now text.now }
 {
