@@ -2,7 +2,7 @@
 use crate::{Choice, ConflictSet};
 use plan_types::List;
 
-/// What a search counted. Each count is at most 2^64 - 1.
+/// What a search counted. Each count saturates at 2^64 - 1.
 #[derive(Clone, Copy, Debug, Drop, PartialEq, Eq)]
 pub struct Counts {
     /// The values that were tried.
