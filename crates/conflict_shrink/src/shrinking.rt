@@ -27,8 +27,8 @@ pub struct Shrunk {
 #[derive(Clone, Copy, Debug, PartialEq, Eq, Drop)]
 pub enum ShrinkFault {
     NoMemory,
-    /// The last search gave up. `spent` is the number of exhausted points of all searches together, at most
-    /// 2^64 - 1.
+    /// The last search gave up. `spent` is the number of exhausted points of all searches together. It
+    /// saturates at 2^64 - 1.
     TooLong { spent: u64 },
 }
 
