@@ -1,5 +1,5 @@
 -- Ranks of variables: ordered by falling score, equal ones by variable.
-use Rattle.std.specs.Prelude.{◌≡◌, ℕ, ◌+◌, ◌-◌, min, nat_lt, nat_eq, Bool, cond, ◌&&◌, ◌||◌, List, [], ◌∷◌, Option, None, is_none}
+use Rattle.std.specs.Prelude.{◌≡◌, ℕ, ◌+◌, ◌-◌, min, nat_lt, nat_eq, Bool, cond, ◌&&◌, ◌||◌, List, [], ◌∷◌, None, is_none}
 use Rattle.std.specs.Option.{unwrap_or}
 use Rattle.std.specs.List.{list_any}
 use Rattle.std.specs.Ordering.{nat_cmp, ordering_then, is_eq}

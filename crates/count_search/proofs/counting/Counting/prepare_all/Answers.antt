@@ -1,5 +1,5 @@
 -- the variables get their next ranks one after another, or none does
-use Rattle.std.proofs.Common.{◌≡◌, ◌<◌, ◌∙◌, length, take, sym, subst, arith}
+use Rattle.std.proofs.Common.{◌<◌, ◌∙◌, length, take, sym, subst, arith}
 use Rattle.std.proofs.lemmas.List.{take_all}
 use Rattle.choice_problem.proofs.InfallibleCalls.{ok-where}
 use Rattle.count_search.specs.Ranks.{AreBetween, raised_all}

@@ -1,5 +1,5 @@
 -- the variables get their next scores one after another
-use Rattle.std.proofs.Common.{◌≡◌, ◌<◌, ◌∙◌, length, take, sym, subst, arith}
+use Rattle.std.proofs.Common.{◌<◌, length, take, sym, subst, arith}
 use Rattle.std.proofs.lemmas.List.{take_all}
 use Rattle.count_search.specs.Ranks.{AreBetween, raised_all}
 use Rattle.count_search.proofs.Scores.{none-between, next-one, next-score}
