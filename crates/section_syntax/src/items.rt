@@ -214,8 +214,7 @@ fn open_branch(
     branches: &[Branch],
     parts: &mut List<SectionPart>,
 ) -> Result<Branch, NoMemory>
-    ensures { IfOk result (λ branch. OpensBranch spec word line args.now chain branches.now branch parts.old parts.new)
-        }
+    ensures { IfOk result (λ branch. OpensBranch spec word line args.now chain branches.now branch parts.old parts.new) }
 {
     let fits = word == BranchWord::If || chain.is_some();
     let condition = own_condition(alloc, spec, word, args)?;
