@@ -11,5 +11,5 @@ pub returns-clause-names : goal.returns-clause-names
 returns-clause-names c =
     ap (map (λ k. k.now)) c.in_ok-new.ensures.keys ∙ with-shown (λ k. k.now) c.args.name c.self.inside.set.keys ∙ ap (λ n. with_name n c.args.name.now) c.self.view_is
 
-pub returns-clause-unchanged : goal.returns-clause-unchanged
-returns-clause-unchanged c = ap (map (λ k. k.now)) c.in_err-new.ensures.err
+pub returns-in_err-new-clause-unchanged : goal.returns-in_err-new-clause-unchanged
+returns-in_err-new-clause-unchanged c = ap (map (λ k. k.now)) c.in_err-new.ensures.err
