@@ -34,7 +34,7 @@ returns-in-Installed c =
     let allows = allowed_versions project c.args.entry.now.instance in
     let dependencies = c.requires ∙ ap (body_dependencies packages names allows) c.in-Installed.is in
     let same =
-    ap (λ (needs : List UnitNeed). map (need_demand owner) needs) (c.as_slice-in-Installed.ensures ∙ ap (λ (a : Dependencies). a.needs) dependencies)
+    ap (λ (needs : List UnitNeed). map (need_demand owner) needs) (c.as_slice.ensures ∙ ap (λ (a : Dependencies). a.needs) dependencies)
     ∙ units-are packages project names owner allows c.in-Installed.record_of.depends c.in-Installed.needs
     ∙ sym (ap (body_demands packages project names owner allows) c.in-Installed.is) in
     subst (λ (ds : List Demand). IfOk c.unit_demands.result (λ found. found ≡ ds)) same c.unit_demands.ensures
