@@ -7,3 +7,6 @@ mod Cut
 mod Lines
 mod ReadBack
 mod Empty
+mod NextLines
+mod NextItems
+mod NextProject

@@ -147,9 +147,9 @@ kept-values (c ∷ constraints) are k =
     let last = length constraints == 0 in
     ap (λ l. l ++ kept_from (k + 1) (map indented (values constraints))) (kept c are.0 last k) ∙ ap (λ l. line_of k 4 (value_text c last) ∷ l) (kept-values constraints are.1 (k + 1))
 
-kept-header : kept_line 1 header ≡ line_of 1 0 header ∷ []
+kept-header : (k : ℕ) → kept_line k header ≡ line_of k 0 header ∷ []
 unfolding kept_line is_kept is_comment trim trim_end trim_start indent
-kept-header = refl
+kept-header k = refl
 
 module _ (c : Constraint) (constraints : List Constraint) (are : AllByRecursion IsPlainConstraint (c ∷ constraints)) where
   raws : List (List ℕ)
@@ -163,10 +163,14 @@ module _ (c : Constraint) (constraints : List Constraint) (are : AllByRecursion 
   unfolding raws
   text-utf8 = subst IsUtf8 (sym (text-is c constraints)) (utf8-joined raws raws-clean)
 
-  pub text-lines : kept_lines (freeze_text (c ∷ constraints)) ≡ line_of 1 0 header ∷ value_lines 2 (values (c ∷ constraints))
+  -- numbered from any line
+  pub lines-from : (k : ℕ) → kept_from k (lines (freeze_text (c ∷ constraints))) ≡ line_of k 0 header ∷ value_lines (k + 1) (values (c ∷ constraints))
   unfolding raws
-  text-lines =
-      ap (λ t. kept_from 1 (lines t)) (without_mark-ascii (freeze_text (c ∷ constraints)) (omega arith) ∙ text-is c constraints)
-      ∙ ap (kept_from 1) (lines-joined raws raws-clean)
-      ∙ ap (λ l. l ++ kept_from 2 (map indented (values (c ∷ constraints)))) kept-header
-      ∙ ap (λ l. line_of 1 0 header ∷ l) (kept-values (c ∷ constraints) are 2)
+  lines-from k =
+      ap (λ t. kept_from k (lines t)) (text-is c constraints)
+      ∙ ap (kept_from k) (lines-joined raws raws-clean)
+      ∙ ap (λ l. l ++ kept_from (k + 1) (map indented (values (c ∷ constraints)))) (kept-header k)
+      ∙ ap (λ l. line_of k 0 header ∷ l) (kept-values (c ∷ constraints) are (k + 1))
+
+  pub text-lines : kept_lines (freeze_text (c ∷ constraints)) ≡ line_of 1 0 header ∷ value_lines 2 (values (c ∷ constraints))
+  text-lines = ap (λ t. kept_from 1 (lines t)) (without_mark-ascii (freeze_text (c ∷ constraints)) (omega arith)) ∙ lines-from 1

@@ -1,5 +1,6 @@
 -- The text of constraints.
-use Rattle.std.specs.Prelude.{ℕ, Bool, ◌==◌, List, [], ◌∷◌, ◌++◌, flat_map, length, codes, if◌then◌else◌}
+use Rattle.std.specs.Prelude.{ℕ, Bool, ◌==◌, ◌||◌, nat_eq, List, [], ◌∷◌, ◌++◌, flat_map, length, codes, if◌then◌else◌}
+use Rattle.std.specs.List.{ends_with}
 use Rattle.plan_types.specs.declared.condition.FlagSet.{FlagSet}
 use Rattle.plan_types.specs.declared.constraint.Constraint.{Constraint}
 use Rattle.plan_types.specs.declared.constraint.Scope.{Scope}
@@ -49,3 +50,15 @@ lines_text (c ∷ constraints) = line_text c (length constraints == 0) ++ lines_
 abbrev pub freeze_text : List Constraint → List ℕ
 freeze_text [] = []
 freeze_text (c ∷ constraints) = codes "constraints:\n" ++ lines_text (c ∷ constraints)
+
+-- whether a text is empty or ends with a line end
+abbrev pub ends_with_newline : List ℕ → Bool
+ends_with_newline text = length text == 0 || ends_with nat_eq text (10 ∷ [])
+
+-- a text with a line end behind its last line
+abbrev pub with_newline : List ℕ → List ℕ
+with_newline text = if ends_with_newline text then text else text ++ 10 ∷ []
+
+-- a text of constraints behind what a freeze file says
+abbrev pub refrozen_text : List ℕ → List Constraint → List ℕ
+refrozen_text before constraints = with_newline before ++ freeze_text constraints

@@ -8,6 +8,6 @@ mod project;
 mod text;
 
 pub use flags::are_flags;
-pub use laws::text_reads_back;
+pub use laws::{text_adds_constraints, text_reads_back};
 pub use project::project_with;
 pub use text::text_of_freeze;
