@@ -1,10 +1,8 @@
 -- Choices that constraints bar.
-use Rattle.std.specs.Prelude.{◌≡◌, Bool, false, not, ◌&&◌, List, ◌++◌, Contains}
+use Rattle.std.specs.Prelude.{◌≡◌, Bool, false, not, ◌&&◌, List, Contains}
 use Rattle.std.specs.List.{list_any}
 use Rattle.plan_types.specs.declared.constraint.Constraint.{Constraint}
 use Rattle.plan_types.specs.declared.index.Package.{Package}
-use Rattle.plan_types.specs.declared.project.Project.{Project}
-use Rattle.plan_types.specs.declared.project.Settings.{Settings}
 use Rattle.qualified_goals.specs.declared.variable.Part.{Part}
 use Rattle.qualified_goals.specs.declared.variable.Part.TheVariants.{Package as ThePackage, Flag, Tests, Benches}
 use Rattle.qualified_goals.specs.Names.{NameTable}
@@ -31,11 +29,3 @@ bars_choice packages names constraints c Benches = asks_for_other names constrai
 -- constraints bar no choice of a trail
 abbrev pub BarsNone : List Package → NameTable → List Constraint → List Choice → Type 0
 BarsNone packages names constraints trail = (c : Choice) → Contains trail c → bars_choice packages names constraints c c.var.part ≡ false
-
--- a project with more constraints
-abbrev pub with_constraints : List Constraint → Project → Project
-with_constraints constraints project = record project { constraints = project.constraints ++ constraints }
-
--- settings with more constraints
-abbrev pub settings_with : List Constraint → Settings → Settings
-settings_with constraints settings = record settings { project = with_constraints constraints settings.project }

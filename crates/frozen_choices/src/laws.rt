@@ -17,7 +17,8 @@ ghost use Rattle.frozen_choices.specs.Plain.{AreInDomains};
 
 /// If a trail is a complete, valid assignment, its constraints bar no choice of it.
 pub fn frozen_bars_none()
-    ensures { (env : Env) (index : Index) (project : Project) (names : NameTable) (orders : List (List ℕ)) (trail : List Choice)
+    ensures { (env : Env) (index : Index) (project : Project) (names : NameTable) (orders : List (List ℕ))
+        (trail : List Choice)
         → IsSound env index → AreNumbers index.packages names → AreNew trail
         → IsWholeValid (whole_problem env index.packages project names orders) (value_in trail)
         → BarsNone index.packages names (frozen index.packages names trail) trail }

@@ -1,8 +1,8 @@
 -- What holds of each item of a list, tests of which some passes, and lists whose items stand in a relation place by place.
-use Rattle.std.proofs.Common.{◌≡◌, Bool, true, false, List, [], ◌∷◌, ◌++◌, map, flat_map, refl, sym, ◌∙◌, subst, inl, inr, ◌⊎◌}
+use Rattle.std.proofs.Common.{◌≡◌, Bool, true, false, List, [], ◌∷◌, ◌++◌, map, flat_map, refl, sym, ◌∙◌, subst, inl, inr}
 use Rattle.std.specs.List.{AllByRecursion, AllZip, Contains, list_any}
-use Rattle.std.proofs.lemmas.Bool.{false≢true, or_cases, or_left, or_right}
-use Rattle.common_laws.specs.Lists.{any-at, any-from, contains-cases, contains-head, contains-left, contains-none, contains-tail}
+use Rattle.std.proofs.lemmas.Bool.{false≢true}
+use Rattle.common_laws.specs.Lists.{any-from, contains-cases, contains-head, contains-none, contains-tail}
 
 pub each-at : {X : Type 0} (P : X → Type 0) (xs : List X) (x : X) → AllByRecursion P xs → Contains xs x → P x
 each-at P [] x h k = absurd (contains-none x k)
@@ -18,17 +18,6 @@ module _ {X : Type 0} (test : X → Bool) where
         | true ↦ λ e. absurd (false≢true (sym h ∙ any-from test xs x k e))
         | false ↦ λ e. refl
       ] refl
-
-  pub any-front : (xs ys : List X) → list_any test xs ≡ true → list_any test (xs ++ ys) ≡ true
-  any-front xs ys h = let (x, among, is) = any-at test xs h in any-from test (xs ++ ys) x (contains-left xs ys x among) is
-
-  pub any-parts : (xs ys : List X) → list_any test (xs ++ ys) ≡ true → (list_any test xs ≡ true) ⊎ (list_any test ys ≡ true)
-  any-parts [] ys h = inr h
-  any-parts (x ∷ xs) ys h =
-      elim (or_cases (test x) (list_any test (xs ++ ys)) h) [
-        | inl first ↦ inl (or_left (test x) (list_any test xs) first)
-        | inr later ↦ elim (any-parts xs ys later) [ inl front ↦ inl (or_right (test x) (list_any test xs) front) | inr back ↦ inr back ]
-      ]
 
 -- ---- place by place
 

@@ -6,7 +6,7 @@ use Rattle.std.specs.Cmp.Lexicographic.{texts_ties}
 use Rattle.std.proofs.lemmas.Bool.{and_from, and_parts, eq-eqb, eqb-true, false≢true, or_cases, or_left, or_right}
 use Rattle.std.proofs.lemmas.List.Elements.{Contains-get_or}
 use Rattle.std.proofs.lemmas.Option.{same_Some}
-use Rattle.common_laws.specs.Lists.{any-at, any-from, contains-flat_map, contains-right, flat_map-contains}
+use Rattle.common_laws.specs.Lists.{any-at, any-from, contains-flat_map, flat_map-contains}
 use Rattle.common_laws.specs.Small.{not-to, same-is}
 use Rattle.conditionals.specs.Paths.{is_same}
 use Rattle.plan_types.specs.Members.{members, members_step, order}
@@ -41,7 +41,7 @@ use Rattle.cabal_problem.specs.ListedDemands.{flag_allows, part_beside}
 use Rattle.cabal_problem.specs.Values.{package_var}
 use Rattle.cabal_problem.specs.Variables.{is_on as value_on}
 use Rattle.cabal_problem.specs.WholeDemands.{whole_problem}
-use Rattle.frozen_choices.specs.Barred.{with_constraints}
+use Rattle.freeze_text.specs.Reads.{IsUnion, with_constraints}
 use Rattle.frozen_choices.specs.Frozen.{asked, entry_of, frozen, frozen_package, is_automatic, is_manual, is_turned_on}
 use Rattle.frozen_choices.proofs.Entries.{entry-sound, package-sound}
 use Rattle.frozen_choices.proofs.Numbers.{declared-number, package-number}
@@ -50,7 +50,7 @@ use Rattle.frozen_plan.proofs.Asked.{IsAskedBeside, IsReason, in-package}
 use Rattle.frozen_plan.proofs.Asked.IsReason.{is_local, never_manual, one_version}
 use Rattle.frozen_plan.proofs.FlagValues.{allowed-at}
 use Rattle.frozen_plan.proofs.Flags.{declared-source, flag-value, one-flag, one-name, package-within, source-within}
-use Rattle.frozen_plan.proofs.Lists.{any-parts, none-at}
+use Rattle.frozen_plan.proofs.Lists.{none-at}
 
 number-is : (o : Option ℕ) (n : ℕ) → is_number o n ≡ true → o ≡ Some n
 number-is None n h = absurd (false≢true h)
@@ -76,8 +76,13 @@ first-false : (a b : Bool) → (a || b) ≡ false → a ≡ false
 first-false true b h = absurd (false≢true (sym h))
 first-false false b h = refl
 
+second-false : (a b : Bool) → (a || b) ≡ false → b ≡ false
+second-false true b h = absurd (false≢true (sym h))
+second-false false b h = h
+
 module _ (env : Env) (index : Index) (project : Project) (names : NameTable) (orders : List (List ℕ)) (trail : List Choice) (sound : IsSound env index) (numbers : AreNumbers index.packages names) (new : AreNew trail)
-    (within : HoldsWithin (whole_problem env index.packages project names orders) (whole_problem env index.packages project names orders).known (value_in trail)) where
+    (within : HoldsWithin (whole_problem env index.packages project names orders) (whole_problem env index.packages project names orders).known (value_in trail))
+    (all : List Constraint) (union : IsUnion all project.constraints (frozen index.packages names trail)) where
   abbrev packages : List Package
   packages = index.packages
 
@@ -85,7 +90,7 @@ module _ (env : Env) (index : Index) (project : Project) (names : NameTable) (or
   ks = frozen packages names trail
 
   abbrev more : Project
-  more = with_constraints ks project
+  more = with_constraints all project
 
   -- a constraint on a package that asks for a flag comes from that package
   asked-of-package : (p f : ℕ) (on : Bool) (k : Constraint) → Contains ks k → is_on names k p ≡ true → requires_value names k.what (Flag f) on ≡ true → IsAskedBeside packages names trail ks p k.«package» f on
@@ -104,8 +109,9 @@ module _ (env : Env) (index : Index) (project : Project) (names : NameTable) (or
       let i = (entry_of packages owner).instance in
       let range = asked scope.Any name (what.Range (Equal e.instance.version)) in
       let test = λ (c : Constraint). applies names c owner.var && excludes c.what i in
-      let excluded = first-false (list_any test more.constraints) (is_boot more i) free in
-      let out : test range ≡ false = none-at test more.constraints range excluded (contains-right project.constraints ks range h) in
+      let excluded = first-false (list_any test all) (is_boot more i) free in
+      let none = second-false (list_any test project.constraints) (list_any test ks) (sym (union test) ∙ excluded) in
+      let out : test range ≡ false = none-at test ks range none h in
       let met : applies names range owner.var ≡ true = and_from (is_number (number_of names.packages name) owner.var.«package») (covers names scope.Any owner.var.qual) numbered (any-covers names owner.var.qual) in
       let member : members (Equal e.instance.version) i.version ≡ true = not-false (members (Equal e.instance.version) i.version) (sym (ap (λ b. b && excludes range.what i) met) ∙ out) in
       equal-members e.instance.version i.version member
@@ -187,7 +193,7 @@ module _ (env : Env) (index : Index) (project : Project) (names : NameTable) (or
         let test = λ (c : Constraint). is_on names c p && requires_value names c.what v.part on in
         elim (or_cases front (names_flag more names v on) h) [
           | inl default ↦ or_left front (names_flag project names v on) default
-          | inr named ↦ elim (any-parts test project.constraints ks named) [
+          | inr named ↦ elim (or_cases (list_any test project.constraints) (list_any test ks) (sym (union test) ∙ named)) [
             | inl own ↦ or_right front (names_flag project names v on) own
             | inr frozen_one ↦
                 let (k, among, passes) = any-at test ks frozen_one in

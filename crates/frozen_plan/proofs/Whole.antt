@@ -1,5 +1,5 @@
 -- The problem of a project with the constraints of a whole valid trail is narrower, and bars no choice of the trail.
-use Rattle.std.proofs.Common.{◌≡◌, ℕ, Bool, true, false, not, ◌&&◌, ◌||◌, List, ◌++◌, map, Some, refl, sym, ◌∙◌, subst, inl, inr}
+use Rattle.std.proofs.Common.{◌≡◌, ℕ, Bool, true, false, not, ◌&&◌, ◌||◌, List, ◌++◌, map, Some, refl, sym, ap, ◌∙◌, subst, inl, inr}
 use Rattle.std.specs.List.{AllZip, Contains, filter, list_any}
 use Rattle.std.proofs.lemmas.Bool.{and_parts, false≢true, or_cases, or_left, or_right}
 use Rattle.plan_types.specs.Packages.{declared_by}
@@ -35,11 +35,12 @@ use Rattle.cabal_problem.specs.ListedDemands.{flag_allows, flag_demand, has_stan
 use Rattle.cabal_problem.specs.Problem.{barred_part}
 use Rattle.cabal_problem.specs.Variables.{has_kind, is_benchmark, is_on as value_on, is_suite}
 use Rattle.cabal_problem.specs.WholeDemands.{body_requests, has_stanza_variable, front_demands, part_requests, requests_of, setup_request, setup_requests, whole_problem, whole_request}
-use Rattle.frozen_choices.specs.Barred.{BarsNone, bars_choice, with_constraints}
+use Rattle.freeze_text.specs.Reads.{IsUnion, with_constraints}
+use Rattle.frozen_choices.specs.Barred.{BarsNone, bars_choice}
 use Rattle.frozen_choices.specs.Frozen.{entry_of, frozen}
 use Rattle.frozen_plan.specs.Narrower.{AddsNothing, BarsNoneOf, IsNarrowed, IsNarrower, StaysFirst}
 use Rattle.frozen_plan.proofs.FlagValues.{one-among}
-use Rattle.frozen_plan.proofs.Lists.{any-front, any-parts, zip-append, zip-map, zip-mapped, zip-self}
+use Rattle.frozen_plan.proofs.Lists.{zip-append, zip-map, zip-mapped, zip-self}
 use Rattle.frozen_plan.proofs.Narrowed.{stays-first, valid-back}
 use Rattle.frozen_plan.proofs.NoOther.{no-other}
 
@@ -51,23 +52,19 @@ fewer false true c more h = absurd (false≢true (sym h))
 fewer false false c more h = h
 
 -- and nothing but what the first bar, or the others
-none-more : {X : Type 0} (test : X → Bool) (xs ys : List X) (rest : Bool) → (list_any test xs || rest) ≡ false → list_any test ys ≡ false → (list_any test (xs ++ ys) || rest) ≡ false
-none-more test xs ys rest first others =
-    elim (list_any test (xs ++ ys) || rest) as (λ b. (list_any test (xs ++ ys) || rest) ≡ b → b ≡ false) [
-      | true ↦ λ e. elim (or_cases (list_any test (xs ++ ys)) rest e) [
-        | inl some ↦ elim (any-parts test xs ys some) [
-          | inl front ↦ absurd (false≢true (sym first ∙ or_left (list_any test xs) rest front))
-          | inr back ↦ absurd (false≢true (sym others ∙ back))
-        ]
-        | inr else ↦ absurd (false≢true (sym first ∙ or_right (list_any test xs) rest else))
-      ]
-      | false ↦ λ e. refl
-    ] refl
+none-more : (all some others rest : Bool) → all ≡ (some || others) → (some || rest) ≡ false → others ≡ false → (all || rest) ≡ false
+none-more all true others rest is h k = absurd (false≢true (sym h))
+none-more all false true rest is h k = absurd (false≢true (sym k))
+none-more all false false rest is h k = ap (λ b. b || rest) is ∙ h
 
 -- constraints that the project has besides
-module _ (packages : List Package) (project : Project) (names : NameTable) (ks : List Constraint) where
+module _ (packages : List Package) (project : Project) (names : NameTable) (ks all : List Constraint) (union : IsUnion all project.constraints ks) where
   abbrev more : Project
-  more = with_constraints ks project
+  more = with_constraints all project
+
+  -- a test that some constraint of the project passes
+  own-passes : (test : Constraint → Bool) → list_any test project.constraints ≡ true → list_any test all ≡ true
+  own-passes test h = union test ∙ or_left (list_any test project.constraints) (list_any test ks) h
 
   -- what excludes the instance of a choice, and what asks for the other value of a part
   abbrev excluding : Choice → Constraint → Bool
@@ -79,8 +76,11 @@ module _ (packages : List Package) (project : Project) (names : NameTable) (ks :
   abbrev wanted : Choice → Bool
   wanted c = requires_stanza project.tests project.benchmarks c.var.part && not (value_on c.val)
 
-  fewer-of : (test : Constraint → Bool) (rest : Bool) → (list_any test (project.constraints ++ ks) || rest) ≡ false → (list_any test project.constraints || rest) ≡ false
-  fewer-of test rest h = fewer (list_any test project.constraints) (list_any test (project.constraints ++ ks)) rest (any-front test project.constraints ks) h
+  fewer-of : (test : Constraint → Bool) (rest : Bool) → (list_any test all || rest) ≡ false → (list_any test project.constraints || rest) ≡ false
+  fewer-of test rest h = fewer (list_any test project.constraints) (list_any test all) rest (own-passes test) h
+
+  none-of : (test : Constraint → Bool) (rest : Bool) → (list_any test project.constraints || rest) ≡ false → list_any test ks ≡ false → (list_any test all || rest) ≡ false
+  none-of test rest h k = none-more (list_any test all) (list_any test project.constraints) (list_any test ks) rest (union test) h k
 
   fewer-barred : (c : Choice) (part : Part) → barred_part packages more names c part ≡ false → barred_part packages project names c part ≡ false
   fewer-barred c ThePackage h = fewer-of (excluding c) (is_boot project (entry_of packages c).instance) h
@@ -89,10 +89,10 @@ module _ (packages : List Package) (project : Project) (names : NameTable) (ks :
   fewer-barred c Benches h = fewer-of (asking c) (wanted c) h
 
   none-barred : (c : Choice) (part : Part) → barred_part packages project names c part ≡ false → bars_choice packages names ks c part ≡ false → barred_part packages more names c part ≡ false
-  none-barred c ThePackage h k = none-more (excluding c) project.constraints ks (is_boot project (entry_of packages c).instance) h k
-  none-barred c (Flag f) h k = none-more (asking c) project.constraints ks (wanted c) h k
-  none-barred c Tests h k = none-more (asking c) project.constraints ks (wanted c) h k
-  none-barred c Benches h k = none-more (asking c) project.constraints ks (wanted c) h k
+  none-barred c ThePackage h k = none-of (excluding c) (is_boot project (entry_of packages c).instance) h k
+  none-barred c (Flag f) h k = none-of (asking c) (wanted c) h k
+  none-barred c Tests h k = none-of (asking c) (wanted c) h k
+  none-barred c Benches h k = none-of (asking c) (wanted c) h k
 
   -- a flag may have each value that it may have without them
   allows-more : (v : Var) (decl : FlagDecl) (on : Bool) → flag_allows project names v decl on ≡ true → flag_allows more names v decl on ≡ true
@@ -101,7 +101,7 @@ module _ (packages : List Package) (project : Project) (names : NameTable) (ks :
       let front = not decl.manual || is_same decl.default on in
       elim (or_cases front (names_flag project names v on) h) [
         | inl default ↦ or_left front (names_flag more names v on) default
-        | inr named ↦ or_right front (names_flag more names v on) (any-front test project.constraints ks named)
+        | inr named ↦ or_right front (names_flag more names v on) (own-passes test named)
       ]
 
   -- ranges are relaxed alike
@@ -120,7 +120,8 @@ same h r = record {
 }
 
 module _ (env : Env) (index : Index) (project : Project) (names : NameTable) (orders : List (List ℕ)) (trail : List Choice) (sound : IsSound env index)
-    (numbers : AreNumbers index.packages names) (new : AreNew trail) (valid : IsWholeValid (whole_problem env index.packages project names orders) (value_in trail)) where
+    (numbers : AreNumbers index.packages names) (new : AreNew trail) (valid : IsWholeValid (whole_problem env index.packages project names orders) (value_in trail))
+    (all : List Constraint) (union : IsUnion all project.constraints (frozen index.packages names trail)) where
   abbrev packages : List Package
   packages = index.packages
 
@@ -128,13 +129,13 @@ module _ (env : Env) (index : Index) (project : Project) (names : NameTable) (or
   ks = frozen packages names trail
 
   abbrev frozen_project : Project
-  frozen_project = with_constraints ks project
+  frozen_project = with_constraints all project
 
   abbrev g : General
   g = whole_problem env index.packages project names orders
 
   abbrev h : General
-  h = whole_problem env index.packages (with_constraints (frozen index.packages names trail) project) names orders
+  h = whole_problem env index.packages (with_constraints all project) names orders
 
   flag-narrowed : (owner : Choice) → owner.var.part ≡ ThePackage → (decl : FlagDecl) → Contains (declared_by (entry_of packages owner).body) decl
       → IsNarrowed h (request_of (flag_demand project names owner decl)) (request_of (flag_demand frozen_project names owner decl))
@@ -144,11 +145,11 @@ module _ (env : Env) (index : Index) (project : Project) (names : NameTable) (or
         owner = refl;
         target = refl;
         yes = λ A. refl;
-        allows = λ n k. one-among project frozen_project names v decl (allows-more packages project names ks v decl) (Some n) k;
+        allows = λ n k. one-among project frozen_project names v decl (allows-more packages project names ks all union v decl) (Some n) k;
         no_other = λ A unbarred yes met.
             let made = is_made-is A owner (and_parts (is_made A owner) true yes).0 in
             let free = subst (λ part. barred_part packages frozen_project names owner part ≡ false) is (unbarred owner made) in
-            one-among frozen_project project names v decl (no-other env index project names orders trail sound numbers new valid.holds owner decl declared free) (A v) met;
+            one-among frozen_project project names v decl (no-other env index project names orders trail sound numbers new valid.holds all union owner decl declared free) (A v) met;
       }
 
   -- what an instance asks for
@@ -187,7 +188,7 @@ module _ (env : Env) (index : Index) (project : Project) (names : NameTable) (or
       let own = body_requests env packages project names owner (allowed_versions project e.instance) e.body in
       let also = body_requests env packages frozen_project names owner (allowed_versions frozen_project e.instance) e.body in
       part-narrowed own also owner.var.part (λ is.
-      subst (λ (allows : Dep → Version → Bool). AllZip (IsNarrowed h) own (body_requests env packages frozen_project names owner allows e.body)) (allows-same packages project names ks e.instance)
+      subst (λ (allows : Dep → Version → Bool). AllZip (IsNarrowed h) own (body_requests env packages frozen_project names owner allows e.body)) (allows-same packages project names ks all union e.instance)
       (body-narrowed owner (allowed_versions project e.instance) e.body (flag-narrowed owner is)))
 
   pub narrower : IsNarrower g h
@@ -196,7 +197,7 @@ module _ (env : Env) (index : Index) (project : Project) (names : NameTable) (or
     known = refl;
     domain = refl;
     order = refl;
-    barred = λ c free. fewer-barred packages project names ks c c.var.part free;
+    barred = λ c free. fewer-barred packages project names ks all union c c.var.part free;
     roots = zip-self (IsNarrowed h) g.roots (same h);
     demands = demands-narrowed;
   }
@@ -206,7 +207,7 @@ module _ (env : Env) (index : Index) (project : Project) (names : NameTable) (or
 
   module _ (bars_none : BarsNone packages names ks trail) where
     unbarred : BarsNoneOf h (value_in trail)
-    unbarred c made = none-barred packages project names ks c c.var.part (valid.holds.unbarred c made) (bars_none c (value_in-made trail c.var c.val made))
+    unbarred c made = none-barred packages project names ks all union c c.var.part (valid.holds.unbarred c made) (bars_none c (value_in-made trail c.var c.val made))
 
     pub first-too : StaysFirst g h (value_in trail)
     first-too = stays-first g h narrower (value_in trail) unbarred
