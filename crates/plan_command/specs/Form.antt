@@ -1,6 +1,5 @@
 -- The form in which an answer is printed.
-use Rattle.std.specs.Prelude.{◌≡◌, ℕ, Bool, true, false, ◌==◌, ◌||◌, nat_eq, List, [], ◌∷◌, ◌++◌, length, Option, unwrap_or, if◌then◌else◌}
-use Rattle.std.specs.List.{ends_with}
+use Rattle.std.specs.Prelude.{◌≡◌, ℕ, Bool, true, false, List, [], length, Option, unwrap_or, if◌then◌else◌}
 use Rattle.hex.specs.Hex.{encode_lower}
 use Rattle.sha2.specs.Sha256.{sha256}
 use Rattle.plan_types.specs.declared.index.Index.{Index}
@@ -10,7 +9,7 @@ use Rattle.choice_problem.specs.declared.outcome.Counts.{Counts}
 use Rattle.choice_problem.specs.declared.problem.Choice.{Choice}
 use Rattle.outside_folder.specs.Files.{Bytes, Files}
 use Rattle.project_config.specs.Project.{freeze_bytes}
-use Rattle.freeze_text.specs.Text.{freeze_text}
+use Rattle.freeze_text.specs.Text.{refrozen_text}
 use Rattle.frozen_choices.specs.Frozen.{frozen}
 use Rattle.command_line.specs.declared.reading.Options.{Options}
 use Rattle.plan_nodes.specs.declared.node.PlanNode.{PlanNode}
@@ -31,17 +30,9 @@ form_of options = if options.json then Json else Lines
 abbrev pub summary_of : ℕ → List Choice → List PlanNode → Counts → Bytes → Bytes
 summary_of number trail nodes counts text = summary_text number (length trail) (length nodes) counts (encode_lower (sha256 text))
 
--- whether a text is empty or ends with a line feed
-abbrev pub ends_with_newline : Bytes → Bool
-ends_with_newline text = length text == 0 || ends_with nat_eq text (10 ∷ [])
-
--- a text whose last line ends with a line feed
-abbrev pub with_newline : Bytes → Bytes
-with_newline text = if ends_with_newline text then text else text ++ 10 ∷ []
-
 -- the old freeze file, and then the constraints of a trail
 abbrev pub frozen_text : Bytes → Index → NameTable → List Choice → Bytes
-frozen_text before index names trail = with_newline before ++ freeze_text (frozen index.packages names trail)
+frozen_text before index names trail = refrozen_text before (frozen index.packages names trail)
 
 -- the text of the old freeze file, empty if it is missing
 abbrev pub old_freeze_text : Option Bytes → Bytes
