@@ -30,7 +30,8 @@ use plan_search::what_is_found_is_right;
 
 /// Each node of the plan of a complete, valid assignment over a sound index has a line.
 pub fn every_node_has_a_line()
-    ensures { (env : Env) (index : Index) (project : Project) (names : NameTable) (orders : List (List ℕ)) (assignment : Assignment)
+    ensures { (env : Env) (index : Index) (project : Project) (names : NameTable) (orders : List (List ℕ))
+        (assignment : Assignment)
         → IsSound env index → AreNumbers index.packages names → AreOrders project index.packages orders
         → list_all (λ named. has_package index named.name) project.extra ≡ true
         → IsWholeValid (whole_problem env index.packages project names orders) assignment
@@ -42,8 +43,9 @@ pub fn every_node_has_a_line()
 
 /// So each node of that plan is printed.
 pub fn valid_plan_lacks_none()
-    ensures { (env : Env) (index : Index) (project : Project) (names : NameTable) (orders : List (List ℕ)) (assignment : Assignment)
-        (lines : List PlanNode) → IsSound env index → AreNumbers index.packages names → AreOrders project index.packages orders
+    ensures { (env : Env) (index : Index) (project : Project) (names : NameTable) (orders : List (List ℕ))
+        (assignment : Assignment) (lines : List PlanNode) → IsSound env index → AreNumbers index.packages names
+        → AreOrders project index.packages orders
         → list_all (λ named. has_package index named.name) project.extra ≡ true
         → IsWholeValid (whole_problem env index.packages project names orders) assignment
         → IsPlan (selection_from index names env assignment) lines
@@ -56,12 +58,15 @@ pub fn valid_plan_lacks_none()
 /// A plan that a run prints lacks no node: each node of its complete, valid assignment has a printed line.
 pub fn printed_plan_lacks_none()
     // for `plan` over an observable folder
-    ensures meant { (picking : Picking) (options : Options) (files : Files) (text : Bytes) (plan : PlansValid picking (form_of options) options files text)
-        → LacksNone (selection_from plan.task.index plan.names plan.task.settings.env (value_in plan.trail)) plan.nodes }
+    ensures meant { (picking : Picking) (options : Options) (files : Files) (text : Bytes)
+        (plan : PlansValid picking (form_of options) options files text)
+        → LacksNone (selection_from plan.task.index plan.names plan.task.settings.env (value_in plan.trail))
+        plan.nodes }
 
     // for each command over any folder
     ensures in_order { (command : Command) (printed : OutputInOrder command) → LacksNone
-        (selection_from printed.1.task.index printed.1.finding.names printed.1.task.settings.env (value_in printed.1.trail)) printed.1.nodes }
+        (selection_from printed.1.task.index printed.1.finding.names printed.1.task.settings.env
+        (value_in printed.1.trail)) printed.1.nodes }
 {
     what_is_found_is_right();
     valid_plan_lacks_none();

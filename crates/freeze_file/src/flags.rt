@@ -38,7 +38,8 @@ pub(crate) fn automatic_beside(
     flags: &[FlagDecl],
     entries: &[Entry],
 ) -> Result<List<FlagSet>, NoMemory>
-    ensures { IfOk result (λ sets. sets ≡ map (flag_beside names.now trail.now choice.now) (filter (is_automatic names.now entries.now) flags.now)) }
+    ensures { IfOk result (λ sets. sets ≡ map (flag_beside names.now trail.now choice.now)
+        (filter (is_automatic names.now entries.now) flags.now)) }
 {
     let manual = manual_flags(alloc, names, entries)?;
     let mut sets = List::new(alloc);

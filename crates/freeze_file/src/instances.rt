@@ -76,7 +76,8 @@ fn are_alike(one: Option<&Entry>, other: Option<&Entry>) -> bool
 }
 
 fn have_one_version(one: Option<&Entry>, other: Option<&Entry>) -> bool
-    ensures { result ≡ is_version (or_none (option_copied one.entry)).instance.version (or_none (option_copied other.entry)).instance.version }
+    ensures { result ≡ is_version (or_none (option_copied one.entry)).instance.version
+        (or_none (option_copied other.entry)).instance.version }
 {
     version_parts(one) == version_parts(other)
 }

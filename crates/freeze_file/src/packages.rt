@@ -174,7 +174,8 @@ impl Frozen<'_> {
         choice: &Choice,
     ) -> Result<(), NoMemory>
         ensures { OnOk result (constraints.new ≡ constraints.old
-            ++ instance_asked scope.now (package_at self.now.packages.now choice.now.var.«package»).name (entry_of self.now.packages.now choice.now)) }
+            ++ instance_asked scope.now (package_at self.now.packages.now choice.now.var.«package»).name
+            (entry_of self.now.packages.now choice.now)) }
     {
         let name = name_at(self.packages, choice.var.package);
         let entry = entry_of(self.packages, choice);
