@@ -1,0 +1,5 @@
+mod Lists
+mod Root
+mod Places
+mod Locals
+mod Index

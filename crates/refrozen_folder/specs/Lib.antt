@@ -1,0 +1,2 @@
+pub mod Refrozen
+pub mod Examples
