@@ -1,0 +1,5 @@
+mod Found
+mod Made
+mod Texts
+mod Tasks
+mod Printed
