@@ -41,11 +41,11 @@ use Rattle.cabal_problem.specs.Values.{package_var}
 use Rattle.cabal_problem.specs.Variables.{is_on}
 use Rattle.cabal_problem.specs.WholeDemands.{whole_problem}
 use Rattle.frozen_choices.specs.Frozen.{are_alike, is_turned_on}
-use Rattle.frozen_choices.proofs.Entries.{package-sound}
-use Rattle.frozen_choices.proofs.Made.{Reaches, alike, alike-self, local, setup, top}
-use Rattle.frozen_choices.proofs.Numbers.{package-number}
-use Rattle.frozen_choices.proofs.Owners.{flag-asked, flag-declared, flag_var}
-use Rattle.frozen_choices.proofs.Releases.{one-release}
+use Rattle.frozen_choices.proofs.SoundEntries.{package-sound}
+use Rattle.frozen_choices.proofs.ConstraintOrigins.{Reaches, alike, alike-self, local, setup, top}
+use Rattle.frozen_choices.proofs.OwnNumbers.{package-number}
+use Rattle.frozen_choices.proofs.FlagOwners.{flag-asked, flag-declared, flag_var}
+use Rattle.frozen_choices.proofs.ReleaseVersions.{one-release}
 
 source-declares : (body : Body) (decl : FlagDecl) → Contains (declared_by body) decl → is_installed body ≡ false
 source-declares (Source d flats offer) decl h = refl

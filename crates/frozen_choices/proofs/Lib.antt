@@ -1,9 +1,9 @@
-pub mod Releases
-pub mod Numbers
-pub mod Owners
-pub mod Entries
-pub mod Taken
-pub mod Made
+pub mod ReleaseVersions
+pub mod OwnNumbers
+pub mod FlagOwners
+pub mod SoundEntries
+pub mod DistinctChoices
+pub mod ConstraintOrigins
 pub mod Told
 pub mod Alike
 pub mod Spared

@@ -28,8 +28,8 @@ use Rattle.solver_index.specs.Places.{entry_at, no_entry}
 use Rattle.cabal_problem.specs.Values.{package_var}
 use Rattle.frozen_choices.specs.Frozen.{frozen}
 use Rattle.frozen_choices.specs.Plain.{AreInDomains}
-use Rattle.frozen_choices.proofs.Entries.{entry-sound, package-sound}
-use Rattle.frozen_choices.proofs.Made.{IsMade, Reaches, Tells, alike, flags, frozen-made, kind, local, setup, top, version}
+use Rattle.frozen_choices.proofs.SoundEntries.{entry-sound, package-sound}
+use Rattle.frozen_choices.proofs.ConstraintOrigins.{IsMade, Reaches, Tells, alike, flags, frozen-made, kind, local, setup, top, version}
 
 module _ (env : Env) (index : Index) (names : NameTable) (trail : List Choice) (sound : IsSound env index)
     (within : AreInDomains index.packages trail) where

@@ -30,11 +30,11 @@ use Rattle.cabal_problem.specs.Variables.{is_on}
 use Rattle.cabal_problem.specs.WholeDemands.{whole_problem}
 use Rattle.frozen_choices.specs.Barred.{BarsNone, bars_choice}
 use Rattle.frozen_choices.specs.Frozen.{entry_of, frozen}
-use Rattle.frozen_choices.proofs.Entries.{entry-sound}
-use Rattle.frozen_choices.proofs.Made.{IsMade, frozen-made}
-use Rattle.frozen_choices.proofs.Numbers.{package-number}
-use Rattle.frozen_choices.proofs.Owners.{flag_var}
-use Rattle.frozen_choices.proofs.Taken.{new-passes}
+use Rattle.frozen_choices.proofs.SoundEntries.{entry-sound}
+use Rattle.frozen_choices.proofs.ConstraintOrigins.{IsMade, frozen-made}
+use Rattle.frozen_choices.proofs.OwnNumbers.{package-number}
+use Rattle.frozen_choices.proofs.FlagOwners.{flag_var}
+use Rattle.frozen_choices.proofs.DistinctChoices.{new-passes}
 use Rattle.frozen_choices.proofs.Told.{no-benches, no-tests, not-asked, not-excluded, tells-package, tells-scope}
 use Rattle.frozen_choices.proofs.Alike.{alike-in-scope, choice-is, flag-kept}
 

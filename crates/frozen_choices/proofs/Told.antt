@@ -30,7 +30,7 @@ use Rattle.constraint_set.specs.Bars.{requires_value, excludes, flag_values, is_
 use Rattle.constraint_set.specs.Relaxed.{is_version}
 use Rattle.cabal_problem.specs.ListedDemands.{part_beside}
 use Rattle.frozen_choices.specs.Frozen.{are_alike, entry_of, is_turned_on, kind_of}
-use Rattle.frozen_choices.proofs.Made.{Tells, flags, kind, version}
+use Rattle.frozen_choices.proofs.ConstraintOrigins.{Tells, flags, kind, version}
 
 -- ---- small tests
 

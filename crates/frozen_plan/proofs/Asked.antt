@@ -26,8 +26,8 @@ use Rattle.solver_index.specs.Places.{entry_at, flag_number}
 use Rattle.cabal_problem.specs.ListedDemands.{part_beside}
 use Rattle.cabal_problem.specs.Values.{package_var}
 use Rattle.frozen_choices.specs.Frozen.{all_flags, asked, asked_apart, asked_everywhere, asked_in_setup, asked_of, asked_of_local, asked_under, asked_where, automatic_flags, entry_of, flag_beside, flags_asked, frozen_as, frozen_package, instance_asked, instances_in, is_automatic, is_turned_on, is_uniform, kind_of, setups_in}
-use Rattle.frozen_choices.proofs.Made.{whole-is}
-use Rattle.frozen_choices.proofs.Taken.{new-passes}
+use Rattle.frozen_choices.proofs.ConstraintOrigins.{whole-is}
+use Rattle.frozen_choices.proofs.DistinctChoices.{new-passes}
 
 -- a choice of an instance of a package
 instance-is : (p : ℕ) (c : Choice) → is_of_package p c ≡ true → choice_of (package_var c.var.qual p) c.val ≡ c

@@ -33,7 +33,7 @@ use Rattle.solver_index.specs.Places.{entry_at, flag_number}
 use Rattle.cabal_problem.specs.ListedDemands.{flag_demand, flag_values, part_beside}
 use Rattle.cabal_problem.specs.Values.{package_var}
 use Rattle.cabal_problem.specs.WholeDemands.{whole_problem}
-use Rattle.frozen_choices.proofs.Owners.{flag-asked}
+use Rattle.frozen_choices.proofs.FlagOwners.{flag-asked}
 use Rattle.frozen_plan.proofs.Lists.{each-at}
 
 -- ---- places

@@ -43,9 +43,9 @@ use Rattle.cabal_problem.specs.Variables.{is_on as value_on}
 use Rattle.cabal_problem.specs.WholeDemands.{whole_problem}
 use Rattle.freeze_text.specs.Reads.{IsUnion, with_constraints}
 use Rattle.frozen_choices.specs.Frozen.{asked, entry_of, frozen, frozen_package, is_automatic, is_manual, is_turned_on}
-use Rattle.frozen_choices.proofs.Entries.{entry-sound, package-sound}
-use Rattle.frozen_choices.proofs.Numbers.{declared-number, package-number}
-use Rattle.frozen_choices.proofs.Releases.{one-release}
+use Rattle.frozen_choices.proofs.SoundEntries.{entry-sound, package-sound}
+use Rattle.frozen_choices.proofs.OwnNumbers.{declared-number, package-number}
+use Rattle.frozen_choices.proofs.ReleaseVersions.{one-release}
 use Rattle.frozen_plan.proofs.Asked.{IsAskedBeside, IsReason, in-package}
 use Rattle.frozen_plan.proofs.Asked.IsReason.{is_local, never_manual, one_version}
 use Rattle.frozen_plan.proofs.FlagValues.{allowed-at}

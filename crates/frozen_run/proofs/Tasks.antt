@@ -29,7 +29,7 @@ use Rattle.freeze_text.specs.Reads.{Adds, IsPlainConstraint, with_constraints}
 use Rattle.freeze_text.specs.Text.{refrozen_text}
 use Rattle.frozen_choices.specs.Frozen.{frozen}
 use Rattle.frozen_choices.specs.Plain.{AreInDomains}
-use Rattle.frozen_choices.proofs.Taken.{valid-in-domains}
+use Rattle.frozen_choices.proofs.DistinctChoices.{valid-in-domains}
 use Rattle.command_line.specs.declared.reading.Options.{Options}
 use Rattle.plan_task.specs.Task.{IsTask, IsTaskOf, task_of, task_or_refusal}
 use Rattle.plan_task.specs.declared.task.Task.{Task}

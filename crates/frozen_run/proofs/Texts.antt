@@ -118,7 +118,7 @@ module _ (alone : AddsAlone) (behind : AddsBehind) (env : Env) (m l : Content) (
   any-file None plainly none read = without-file none read
   any-file (Some bytes) plainly none read =
       elim (nat_lt file_limit (length bytes)) as (λ t. large_of m (if t then TooLarge else Holds bytes) l ≡ None → IsProject env (texts_of m (if t then TooLarge else Holds bytes) l) (Ok project)
-          → IsTold env m l (refrozen_text bytes constraints) project constraints) [
+      → IsTold env m l (refrozen_text bytes constraints) project constraints) [
         | true ↦ λ large read. absurd (too-large large)
         | false ↦ with-file bytes plainly
       ] none read

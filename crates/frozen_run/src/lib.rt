@@ -5,6 +5,4 @@
 
 mod laws;
 
-pub use laws::{
-    frozen_plan_is_found_again, frozen_task_is_same, frozen_trail_is_found_again,
-};
+pub use laws::{frozen_plan_is_found_again, frozen_task_is_same, frozen_trail_is_found_again};

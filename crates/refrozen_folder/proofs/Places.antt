@@ -93,7 +93,7 @@ module _ (files now : Files) (text : Bytes) (is : IsRefrozen files text now) whe
   same-below : (pattern : Bytes) (place : FolderPlace) → kept_below now pattern place ≡ kept_below files pattern place
   same-below pattern place =
       elim place.folder as (λ t. filter is_kept (map (place_in place.path) (filter (is_matched pattern) (if t then names_in now place.path else [])))
-          ≡ filter is_kept (map (place_in place.path) (filter (is_matched pattern) (if t then names_in files place.path else [])))) [
+      ≡ filter is_kept (map (place_in place.path) (filter (is_matched pattern) (if t then names_in files place.path else [])))) [
         | true ↦ in-directory place.path
         | false ↦ refl
       ]

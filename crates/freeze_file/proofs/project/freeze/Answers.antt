@@ -7,7 +7,7 @@ use Rattle.choice_problem.specs.declared.problem.Choice.{Choice}
 use Rattle.freeze_text.specs.Reads.{IsPlainConstraint}
 use Rattle.frozen_choices.specs.Barred.{BarsNone}
 use Rattle.frozen_choices.specs.Frozen.{frozen}
-use Rattle.frozen_choices.proofs.Taken.{valid-in-domains}
+use Rattle.frozen_choices.proofs.DistinctChoices.{valid-in-domains}
 use Rattle.freeze_file.proofs.project.freeze.Goals as goal
 
 pub returns-clause-bars_none : goal.returns-clause-bars_none

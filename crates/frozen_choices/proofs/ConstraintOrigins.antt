@@ -1,4 +1,4 @@
--- What each constraint of a trail was made from.
+-- Shared: what each constraint of a trail was made from.
 use Rattle.std.proofs.Common.{◌≡◌, ◌<◌, inl, inr, ℕ, Bool, true, false, nat_eq, if◌then◌else◌, List, [], ◌∷◌, length, Some, None, refl, sym, ap, ◌∙◌, subst}
 use Rattle.std.specs.List.{Contains, filter, flat_map, list_any}
 use Rattle.constraint_set.specs.Relaxed.{is_version}
@@ -29,7 +29,7 @@ use Rattle.solver_index.specs.Places.{entry_at, rising}
 use Rattle.solver_index.proofs.ListLaws.{rising-below}
 use Rattle.cabal_problem.specs.Values.{package_var}
 use Rattle.frozen_choices.specs.Frozen.{all_flags, are_alike, asked, asked_apart, asked_everywhere, asked_in_setup, asked_of_local, asked_under, asked_where, automatic_flags, entry_of, flag_beside, flags_asked, frozen, frozen_as, frozen_package, instance_asked, instances_in, is_automatic, is_setup_of, is_uniform, kind_of, setups_in}
-use Rattle.frozen_choices.proofs.Numbers.{self}
+use Rattle.frozen_choices.proofs.OwnNumbers.{self}
 
 -- ---- what a constraint says
 

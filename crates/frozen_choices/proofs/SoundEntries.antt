@@ -1,4 +1,4 @@
--- Packages and entries of a sound index, by their places.
+-- Shared: packages and entries of a sound index, by their places.
 use Rattle.std.proofs.Common.{◌<◌, ℕ, length}
 use Rattle.std.proofs.lemmas.Option.{slice_get-get_or}
 use Rattle.common_laws.specs.Each.{each-at}

@@ -1,4 +1,4 @@
--- Where a flag has a value its package has one, whose instance asks for it.
+-- Shared: where a flag has a value its package has one, whose instance asks for it.
 use Rattle.std.proofs.Common.{◌≡◌, ◌⊎◌, inl, inr, ℕ, zero, suc, Bool, true, false, ◌&&◌, List, [], ◌∷◌, ◌++◌, length, map, Some, None, refl, sym, ap, ◌∙◌, subst}
 use Rattle.std.specs.Prelude.{is_some, nat_lt}
 use Rattle.std.specs.List.{Contains, filter, flat_map, list_any}
@@ -40,7 +40,7 @@ use Rattle.cabal_problem.specs.ListedDemands.{extra_root, flag_demand, has_stanz
 use Rattle.cabal_problem.specs.Values.{package_var}
 use Rattle.cabal_problem.specs.Variables.{declares, has_kind, is_benchmark, is_qual, is_suite}
 use Rattle.cabal_problem.specs.WholeDemands.{body_requests, has_stanza_variable, front_demands, part_requests, requests_of, setup_request, setup_requests, whole_problem, whole_request}
-use Rattle.frozen_choices.proofs.Numbers.{declared-number}
+use Rattle.frozen_choices.proofs.OwnNumbers.{declared-number}
 
 -- ---- what opens a variable
 

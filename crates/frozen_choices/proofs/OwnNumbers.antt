@@ -1,4 +1,4 @@
--- Packages and declared flags have numbers of their own.
+-- Shared: packages and declared flags have numbers of their own.
 use Rattle.std.proofs.Common.{◌≡◌, ◌<◌, ◌+◌, ℕ, zero, suc, Bool, true, false, cond, not, ◌||◌, List, [], ◌∷◌, length, flat_map, get_or, Some, None, refl, sym, ap, ◌∙◌, subst, arith}
 use Rattle.std.specs.Prelude.{unwrap_or}
 use Rattle.std.specs.List.{AllByRecursion, Contains, IsDistinct, list_any, position_or_len}

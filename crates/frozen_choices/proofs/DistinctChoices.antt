@@ -1,4 +1,4 @@
--- The choices of a trail on which each is of another variable.
+-- Shared: the choices of a trail on which each is of another variable.
 use Rattle.std.proofs.Common.{◌≡◌, inl, inr, ℕ, List, [], ◌∷◌, ◌++◌, Some, sym, subst}
 use Rattle.std.specs.List.{Contains}
 use Rattle.common_laws.specs.Lists.{contains-append, contains-cases, contains-none}
