@@ -24,6 +24,7 @@ use Rattle.plan_command.specs.declared.form.Form.{Form}
 use Rattle.plan_command.specs.Form.{old_freeze_text}
 use Rattle.plan_command.specs.declared.output.Output.{Output}
 use Rattle.plan_command.specs.Output.{IsPlanned}
+use Rattle.plan_command.specs.Run.{IsOutputOfPlan}
 
 -- the settings with these constraints in place of the project's, and without a limit
 abbrev pub settings_with : List Constraint → Settings → Settings
@@ -55,7 +56,12 @@ pub record IsFrozenTask (names : NameTable) (trail : List Choice) (task now : Ta
   pub settings_are : now.settings ≡ settings_with constraints task.settings
   pub index_is : now.index ≡ task.index
 
--- an output is that of a plan of this trail with these nodes, whatever was counted
+-- an output is that of a plan of this trail with these nodes, with some counts
 abbrev pub IsPlannedAgain : Form → Index → NameTable → List Choice → List PlanNode → Output → Type 0
 IsPlannedAgain form index names trail nodes output =
     (counts : Counts) × IsPlanned form index names trail nodes counts output
+
+-- over these files, a plan without a limit is printed as a plan of this trail with these nodes, in any form
+abbrev pub PlansAgain : Options → Files → Index → NameTable → List Choice → List PlanNode → Type 0
+PlansAgain options files index names trail nodes =
+    (form : Form) (output : Output) → IsOutputOfPlan form (unlimited options) files output → IsPlannedAgain form index names trail nodes output

@@ -17,12 +17,9 @@ ghost use Rattle.plan_task.specs.declared.task.Task.{Task};
 ghost use Rattle.plan_search.specs.Finding.{IsFindingOf};
 ghost use Rattle.plan_search.specs.declared.search.Finding.{Finding};
 ghost use Rattle.plan_search.specs.declared.search.Picking.TheVariants.{Least};
-ghost use Rattle.plan_command.specs.declared.form.Form.{Form};
-ghost use Rattle.plan_command.specs.declared.output.Output.{Output};
 ghost use Rattle.plan_command.specs.Form.{frozen_form};
 ghost use Rattle.plan_command.specs.Meaning.{PlansFirst};
-ghost use Rattle.plan_command.specs.Run.{IsOutputOfPlan};
-ghost use Rattle.frozen_run.specs.Again.{IsFoundAgain, IsFrozenFolder, IsFrozenTask, IsPlannedAgain, settings_with, unlimited};
+ghost use Rattle.frozen_run.specs.Again.{IsFoundAgain, IsFrozenFolder, IsFrozenTask, PlansAgain, settings_with, unlimited};
 
 use elaborate::one_plan;
 use freeze_text::text_adds_constraints;
@@ -63,12 +60,11 @@ pub fn frozen_task_is_same()
     text_adds_constraints();
 }
 
-/// So a run without a limit over that folder prints a plan of the same choices and nodes.
+/// So a run without a limit over that folder prints a plan of the same choices and nodes. Only its counts may differ.
 pub fn frozen_plan_is_found_again()
-    ensures { (form : Form) (options : Options) (files now : Files) (text : Bytes)
-        (plan : PlansFirst (frozen_form files) options files text) (output : Output)
-        → IsFrozenFolder files text now → IsOutputOfPlan form (unlimited options) now output
-        → IsPlannedAgain form plan.task.index plan.names plan.trail plan.nodes output }
+    ensures { (options : Options) (files now : Files) (text : Bytes)
+        (plan : PlansFirst (frozen_form files) options files text) → IsFrozenFolder files text now
+        → PlansAgain options now plan.task.index plan.names plan.trail plan.nodes }
 {
     found_again();
     frozen_is_plain();
