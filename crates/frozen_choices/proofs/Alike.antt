@@ -63,7 +63,7 @@ module _ (env : Env) (index : Index) (project : Project) (names : NameTable) (or
   A = value_in trail
 
   pub choice-is : (q : Qual) (p i : ℕ) → A (package_var q p) ≡ Some i → IsChoice whole (choice_of (package_var q p) i)
-  choice-is q p i chosen = valid.covers.assignment.choice (choice_of (package_var q p) i) chosen
+  choice-is q p i chosen = valid.holds.assignment.choice (choice_of (package_var q p) i) chosen
 
   -- the instance under a qualifier in scope is alike
   only-top : (q : Qual) → covers names scope.Top q ≡ true → q ≡ Top
@@ -120,15 +120,15 @@ module _ (env : Env) (index : Index) (project : Project) (names : NameTable) (or
       let d = choice_of (package_var r p) i in
       let v = part_beside c (Flag (flag_number names decl.name)) in
       let w = part_beside d (Flag (flag_number names decl.name)) in
-      let asked = flag-asked env packages project names orders numbers A valid.covers q p i chosen decl declared in
-      let asked_too = flag-asked env packages project names orders numbers A valid.covers r p i other decl declared in
+      let asked = flag-asked env packages project names orders numbers A valid.holds q p i chosen decl declared in
+      let asked_too = flag-asked env packages project names orders numbers A valid.holds r p i other decl declared in
       elim (same_var c.var d.var) as (λ b. same_var c.var d.var ≡ b → A v ≡ A w) [
         | true ↦ λ e. ap (λ (x : Var). A (flag_var x.qual p (flag_number names decl.name))) (same_var-is c.var d.var e)
         | false ↦ λ e.
             let apart = and_from (not (same_var c.var d.var)) (nat_eq i i) (ap not e) (eq-eqb i i refl) in
             let twins = and_from (same_var d.var d.var) (not (same_var c.var d.var) && nat_eq i i) (same_var-refl d.var) apart in
             let ask = and_from (same_var v v) (same_var w w) (same_var-refl v) (same_var-refl w) in
-            valid.covers.agree (request_of (flag_demand project names c decl)) (request_of (flag_demand project names d decl)) asked asked_too
+            valid.holds.agree (request_of (flag_demand project names c decl)) (request_of (flag_demand project names d decl)) asked asked_too
             (and_from (are_twins c d) (same_var v v && same_var w w) twins ask)
       ] refl
 

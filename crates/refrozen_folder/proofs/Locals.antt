@@ -11,10 +11,11 @@ use Rattle.plan_types.specs.declared.refusal.Refusal.{Refusal}
 use Rattle.outside_folder.specs.declared.folder.Name.{Name}
 use Rattle.outside_folder.specs.Files.{Bytes, Files}
 use Rattle.project_paths.specs.Entries.{files_by, first_crowded, judged, unless_crowded, unless_none}
-use Rattle.project_paths.specs.Found.{cabal_in, files_of, found_at, found_by, is_cabal, is_cabal_file, is_local}
+use Rattle.project_paths.specs.Found.{cabal_in, files_of, found_at, found_by, is_cabal_file, is_local}
 use Rattle.project_paths.specs.Local.{all_files, and_then, finished_of, in_order, local_files, unless_none as unless_no_paths}
 use Rattle.project_paths.specs.Patterns.{pattern_of}
 use Rattle.project_paths.specs.Places.{names_at, path_in, places}
+use Rattle.project_paths.specs.Spots.{is_cabal}
 use Rattle.project_paths.specs.declared.found.FoundFiles.{FoundFiles}
 use Rattle.project_paths.specs.declared.pattern.Pattern.{Pattern}
 use Rattle.project_paths.specs.declared.places.FolderPlace.{FolderPlace}
