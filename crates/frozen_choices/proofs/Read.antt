@@ -2,10 +2,10 @@
 use Rattle.std.proofs.Common.{◌≡◌, ◌<◌, ℕ, true, false, if◌then◌else◌, List, length, refl, subst}
 use Rattle.std.specs.List.{AllByRecursion, Contains, list_all}
 use Rattle.std.proofs.lemmas.Bool.{and_from}
-use Rattle.std.proofs.lemmas.List.Elements.{Contains-get_or, recursion_from_All}
+use Rattle.std.proofs.lemmas.List.Elements.{recursion_from_All}
 use Rattle.common_laws.specs.Lists.{all-at, all-from, all-where, contains-none}
 use Rattle.plan_types.specs.Name.{is_flag_name, is_lower}
-use Rattle.plan_types.specs.Packages.{declared_by, entries_of, is_installed, no_package, package_at}
+use Rattle.plan_types.specs.Packages.{declared_by, entries_of, is_installed, package_at}
 use Rattle.plan_types.specs.declared.condition.Env.{Env}
 use Rattle.plan_types.specs.declared.condition.FlagSet.{FlagSet}
 use Rattle.plan_types.specs.declared.constraint.Constraint.{Constraint}
@@ -14,7 +14,6 @@ use Rattle.plan_types.specs.declared.constraint.What.TheVariants as what
 use Rattle.plan_types.specs.declared.description.FlagDecl.{FlagDecl}
 use Rattle.plan_types.specs.declared.index.Body.{Body}
 use Rattle.plan_types.specs.declared.index.Body.TheVariants.{Source, Installed}
-use Rattle.plan_types.specs.declared.index.Entry.{Entry}
 use Rattle.plan_types.specs.declared.index.Index.{Index}
 use Rattle.plan_types.specs.declared.index.Package.{Package}
 use Rattle.flatten.specs.Sound.{IsBody, IsSound}
@@ -24,7 +23,7 @@ use Rattle.qualified_goals.specs.declared.variable.Qual.{Qual}
 use Rattle.qualified_goals.specs.Names.{NameTable}
 use Rattle.choice_problem.specs.declared.problem.Choice.{Choice}
 use Rattle.choice_problem.specs.Trail.{choice_of}
-use Rattle.solver_index.specs.Places.{entry_at, no_entry}
+use Rattle.solver_index.specs.Places.{entry_at}
 use Rattle.cabal_problem.specs.Values.{package_var}
 use Rattle.frozen_choices.specs.Frozen.{frozen}
 use Rattle.frozen_choices.specs.Plain.{AreInDomains}
