@@ -16,7 +16,6 @@ use Rattle.cabal_lexer.specs.Layout.{Block, Ends, Stands, braced_run, element, e
 use Rattle.cabal_lexer.specs.Fault.{StandsFor}
 use Rattle.cabal_lexer.specs.RoundTrip.{ends_with_return}
 use Rattle.cabal_lexer.specs.Tree.{Tree, field, in_front, section, tree_of}
-use Rattle.cabal_lexer.proofs.Blocks.{block_before}
 use Rattle.cabal_lexer.proofs.CanonicalLines.{line_of}
 use Rattle.cabal_lexer.proofs.ElementTrees.{field_in_front, section_in_front}
 use Rattle.project_file.specs.Parts.{Says, SectionSays, package_parts, placed}
@@ -28,6 +27,14 @@ use Rattle.freeze_text.proofs.Cut.{values}
 use Rattle.freeze_text.proofs.Lines.{header, lines-from, text-utf8, value_lines}
 use Rattle.freeze_text.proofs.NextLines.{AreBehind, behind, ended-utf8}
 use Rattle.freeze_text.proofs.ReadBack.{IsSaid, Part, items_of, said, stands}
+
+-- a block is also one before another rest that ends it
+block-before : {depth : ℕ} {braced : Bool} {line : Line} {block rest : List Line} {item : Element} → Block depth braced line block rest item → (other : List Line)
+    → (Ends (line.indent + 1) braced rest → Ends (line.indent + 1) braced other) → Block depth braced line block other item
+block-before (run b i x) other t = run b i (t x)
+block-before (braced_run values close b i c) other t = braced_run values close b i c
+block-before (indented b s x) other t = indented b s (t x)
+block-before (enclosed block close b s c) other t = enclosed block close b s c
 
 -- ---- lines at the margin begin a new element
 
@@ -41,7 +48,7 @@ module _ (k : ℕ) (text : List ℕ) (more : List Line) where
   stands-both nothing next = next
   stands-both {bound} {depth} {others = others} (element {items = items} {item = item} line block rest e b t) next =
       subst (λ l. Stands bound depth false (line ∷ l) (item ∷ items ++ others)) (sym (append_assoc block rest (line_of k 0 text ∷ more)))
-      (element line block (rest ++ line_of k 0 text ∷ more) e (block_before b (rest ++ line_of k 0 text ∷ more) (ends-margin line.indent k text rest more)) (stands-both t next))
+      (element line block (rest ++ line_of k 0 text ∷ more) e (block-before b (rest ++ line_of k 0 text ∷ more) (ends-margin line.indent k text rest more)) (stands-both t next))
 
 -- ---- what they say
 
