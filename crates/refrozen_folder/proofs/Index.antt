@@ -1,35 +1,39 @@
 -- The index of a folder with another freeze file.
 use Rattle.std.proofs.Common.{◌≡◌, ℕ, ◌+◌, Bool, true, false, List, [], ◌∷◌, ◌++◌, map, flat_map, Result, Ok, Err, refl, sym, ap, ◌∙◌, subst}
 use Rattle.std.specs.Prelude.{codes, filter, unwrap_or}
-use Rattle.std.specs.List.{AllByRecursion, list_all}
-use Rattle.std.proofs.lemmas.Bool.{and_parts}
+use Rattle.std.specs.List.{list_all}
+use Rattle.std.proofs.lemmas.Bool.{and_parts, false≢true}
 use Rattle.plan_types.specs.declared.condition.Env.{Env}
 use Rattle.plan_types.specs.declared.dependency.Named.{Named}
 use Rattle.plan_types.specs.declared.index.Index.{Index}
 use Rattle.plan_types.specs.declared.index.Places.{Places}
 use Rattle.plan_types.specs.declared.refusal.Refusal.{Refusal}
 use Rattle.outside_folder.specs.declared.folder.Name.{Name}
-use Rattle.outside_folder.specs.Calls.{content_at}
 use Rattle.outside_folder.specs.Files.{Bytes, Files, listing}
-use Rattle.index_files.specs.Closure.{AreClosed, Ground, HasVersions, IsBeyond, IsClosure, IsPart, IsReached, IsVisit, IsWhole, ReadsAll, ReadsAs, Visit, by_name, is_local, root, visited_files}
+use Rattle.index_files.specs.Closure.{Ground, HasVersions, IsClosure, IsPart, IsReached, IsVisit, ReadsAs, Visit, by_name, is_local, root, visited_files}
 use Rattle.index_files.specs.File.{content_found, count_all, file_found, size_all}
 use Rattle.index_files.specs.InTurn.{GoesOn}
-use Rattle.index_files.specs.Locals.{AreLocals, ReadsLocals}
+use Rattle.index_files.specs.Locals.{AreLocals}
 use Rattle.index_files.specs.Places.{name_dir, record_path, release_path, under}
-use Rattle.index_files.specs.Readings.{AreIndexed, AreRead, AreReadings, AreTooMany}
-use Rattle.index_files.specs.Releases.{AreReleases, AreVersions, names_below, release_paths}
+use Rattle.index_files.specs.Readings.{AreIndexed, AreReadings}
+use Rattle.index_files.specs.Releases.{AreReleases, AreVersions, names_below, version_dir}
 use Rattle.index_files.specs.Totals.{is_too_many}
-use Rattle.index_files.specs.Units.{AreUnitsOf, ReadsUnits, is_record, record_files, record_paths}
-use Rattle.index_files.specs.declared.closure.FoundName.{FoundName}
-use Rattle.index_files.specs.declared.file.ReadFile.{ReadFile}
+use Rattle.index_files.specs.Units.{AreUnitsOf, is_record, record_files}
 use Rattle.index_files.specs.declared.local.Local.{Local}
 use Rattle.index_files.specs.declared.readings.Readings.{Readings}
 use Rattle.index_files.specs.declared.unit.Unit.{Unit}
-use Rattle.index_files.specs.declared.versions.VersionDir.{VersionDir}
-use Rattle.index_assembly.specs.Folder.{Gathers, IsFolderIndex}
+use Rattle.index_assembly.specs.Folder.{IsFolderIndex}
 use Rattle.refrozen_folder.specs.Refrozen.{IsRefrozen}
-use Rattle.refrozen_folder.proofs.Lists.{each-further, map-alike, map-each}
-use Rattle.refrozen_folder.proofs.Root.{is_other, same-content, same-listed, slash-other}
+use Rattle.refrozen_folder.proofs.Lists.{each-further, given_by, listed_by, map-alike, map-each}
+use Rattle.refrozen_folder.proofs.Root.{has_slash, is_other, same-content, same-listed, slash-before, slash-last, slash-other}
+
+-- files as they are read
+abbrev ReadFile : Type 0
+ReadFile = given_by (file_found true [])
+
+-- directories of versions
+abbrev VersionDir : Type 0
+VersionDir = listed_by (version_dir [])
 
 module _ (files now : Files) (text : Bytes) (is : IsRefrozen files text now) where
   -- ---- files at paths
@@ -44,30 +48,39 @@ module _ (files now : Files) (text : Bytes) (is : IsRefrozen files text now) whe
       ap (λ (f : ReadFile). f ∷ map (file_found listed now) paths) (same-file listed path parts.0) ∙ ap (λ (l : List ReadFile). file_found listed files path ∷ l) (same-files listed paths parts.1)
 
   -- paths in directories
-  same-slashed : {X : Type 0} (listed : Bool) (a rest : X → Bytes) (xs : List X) → map (file_found listed now) (map (λ x. a x ++ 47 ∷ rest x) xs) ≡ map (file_found listed files) (map (λ x. a x ++ 47 ∷ rest x) xs)
-  same-slashed listed a rest xs =
-      map-alike (file_found listed now) (file_found listed files) (map (λ x. a x ++ 47 ∷ rest x) xs)
-      (map-each (λ path. file_found listed now path ≡ file_found listed files path) (λ x. a x ++ 47 ∷ rest x) xs (λ x. same-file listed (a x ++ 47 ∷ rest x) (slash-other (a x) (rest x))))
+  same-slashed : {X : Type 0} (listed : Bool) (path : X → Bytes) (slashed : (x : X) → has_slash (path x) ≡ true) (xs : List X)
+      → map (file_found listed now) (map path xs) ≡ map (file_found listed files) (map path xs)
+  same-slashed listed path slashed xs =
+      map-alike (file_found listed now) (file_found listed files) (map path xs)
+      (map-each (λ p. file_found listed now p ≡ file_found listed files p) path xs (λ x. same-file listed (path x) (slash-other (path x) (slashed x))))
 
   -- ---- records
+
+  under-slashed : (dir name : Bytes) → has_slash (under dir name) ≡ true
+  under-slashed dir name = slash-before (dir ++ codes "/") name (slash-last dir)
 
   same-records : (places : Places) → record_files places now ≡ record_files places files
   same-records places =
       ap (map (file_found true now)) (same-listed files now text is (λ name. record_path places name.text) is_record refl places.installed)
-      ∙ same-slashed true (λ (name : Name). places.installed) (λ (name : Name). name.text) (filter is_record (unwrap_or (listing files places.installed) []))
+      ∙ same-slashed true (λ (name : Name). record_path places name.text) (λ (name : Name). under-slashed places.installed name.text) (filter is_record (unwrap_or (listing files places.installed) []))
 
   -- ---- versions and releases
 
-  same-listing : (a rest : Bytes) → listing now (a ++ 47 ∷ rest) ≡ listing files (a ++ 47 ∷ rest)
-  same-listing [] rest = is.below 47 rest
-  same-listing (b ∷ a) rest = is.below b (a ++ 47 ∷ rest)
+  same-listing : (dir : Bytes) → has_slash dir ≡ true → listing now dir ≡ listing files dir
+  same-listing [] h = absurd (false≢true h)
+  same-listing (b ∷ bs) h = is.below b bs
 
   same-names : (places : Places) (name : Bytes) → names_below places now name ≡ names_below places files name
-  same-names places name = ap (λ o. unwrap_or o []) (same-listing places.index name)
+  same-names places name = ap (λ o. unwrap_or o []) (same-listing (name_dir places name) (under-slashed places.index name))
+
+  release-slashed : (places : Places) (name dir : Bytes) → has_slash (release_path places name dir) ≡ true
+  release-slashed places name dir =
+      let front = name_dir places name ++ codes "/" ++ dir in
+      slash-before (front ++ codes "/" ++ name) (codes ".cabal") (slash-before (front ++ codes "/") name (slash-last front))
 
   same-visited : (ground : Ground) (visit : Visit) → visited_files ground now visit ≡ visited_files ground files visit
   same-visited ground visit =
-      same-slashed false (λ (dir : VersionDir). name_dir ground.places visit.name) (λ (dir : VersionDir). dir.text ++ codes "/" ++ visit.name ++ codes ".cabal") visit.dirs
+      same-slashed false (λ (dir : VersionDir). release_path ground.places visit.name dir.text) (λ (dir : VersionDir). release-slashed ground.places visit.name dir.text) visit.dirs
 
   module _ (ground : Ground) where
     reads-as : (visit : Visit) (local : Bool) → ReadsAs ground files visit local → ReadsAs ground now visit local

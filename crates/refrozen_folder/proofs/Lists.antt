@@ -10,6 +10,16 @@ use Rattle.std.specs.Ordering.{match_ordering}
 use Rattle.std.specs.declared.cmp.Ordering.{Ordering}
 use Rattle.std.specs.declared.cmp.Ordering.TheVariants.{Less, Equal, Greater}
 
+-- types that a library doesn't export, by its functions: what one takes, what it gives, and what it lists
+abbrev pub taken_by : {A B : Type 0} → (A → B) → Type 0
+taken_by {A = A} f = A
+
+abbrev pub given_by : {A B : Type 0} → (A → B) → Type 0
+given_by {B = B} f = B
+
+abbrev pub listed_by : {A B : Type 0} → (A → List B) → Type 0
+listed_by {B = B} f = B
+
 -- what is mapped of those that pass, item by item
 pub map-filter : {X Y Z : Type 0} (f : Y → Z) (test : Y → Bool) (g : X → Y) (xs : List X) → map f (filter test (map g xs)) ≡ flat_map (λ x. map f (filter test (g x ∷ []))) xs
 map-filter f test g [] = refl

@@ -1,26 +1,34 @@
 -- No local file is the freeze file.
-use Rattle.std.proofs.Common.{◌≡◌, Bool, true, false, List, [], ◌∷◌, ◌++◌, map, flat_map, Option, Some, None, Result, Ok, Err, refl, sym, ap, ◌∙◌, subst}
-use Rattle.std.specs.Prelude.{filter, if◌then◌else◌, ◌&&◌}
+use Rattle.std.proofs.Common.{◌≡◌, Bool, true, false, List, [], ◌∷◌, map, flat_map, Option, Some, None, Result, Ok, Err, refl, ◌∙◌, subst}
+use Rattle.std.specs.Prelude.{filter, if◌then◌else◌}
 use Rattle.std.specs.Cmp.Lexicographic.{slice_cmp}
-use Rattle.std.specs.List.{Contains, list_all}
+use Rattle.std.specs.List.{list_all}
 use Rattle.std.specs.Ordering.{nat_cmp}
 use Rattle.std.proofs.lemmas.Bool.{and_from, and_parts}
 use Rattle.common_laws.specs.Lists.{all-append, all-from, contains-filter, contains-map}
 use Rattle.plan_types.specs.declared.project.ProjectEntry.{ProjectEntry}
+use Rattle.plan_types.specs.declared.refusal.Cause.TheVariants.{NoMatch}
 use Rattle.plan_types.specs.declared.refusal.Refusal.{Refusal}
 use Rattle.outside_folder.specs.declared.folder.Name.{Name}
 use Rattle.outside_folder.specs.Files.{Bytes, Files}
-use Rattle.project_paths.specs.Entries.{files_by, first_crowded, judged, unless_crowded, unless_none}
-use Rattle.project_paths.specs.Found.{cabal_in, files_of, found_at, found_by, is_cabal_file, is_local}
+use Rattle.project_paths.specs.Entries.{files_by, first_crowded, refusal_of, unless_crowded}
+use Rattle.project_paths.specs.Found.{cabal_in, found_at, found_by, found_files, is_cabal_file, is_local}
 use Rattle.project_paths.specs.Local.{all_files, and_then, finished_of, in_order, local_files, unless_none as unless_no_paths}
 use Rattle.project_paths.specs.Patterns.{pattern_of}
-use Rattle.project_paths.specs.Places.{names_at, path_in, places}
+use Rattle.project_paths.specs.Places.{names_at, path_in, place_in, places}
 use Rattle.project_paths.specs.Spots.{is_cabal}
-use Rattle.project_paths.specs.declared.found.FoundFiles.{FoundFiles}
-use Rattle.project_paths.specs.declared.pattern.Pattern.{Pattern}
-use Rattle.project_paths.specs.declared.places.FolderPlace.{FolderPlace}
-use Rattle.refrozen_folder.proofs.Lists.{all-in-order}
-use Rattle.refrozen_folder.proofs.Root.{is_other, other-by, slash-other}
+use Rattle.refrozen_folder.proofs.Lists.{all-in-order, given_by, taken_by}
+use Rattle.refrozen_folder.proofs.Root.{is_other, other-by, slash-inside, slash-other}
+
+-- patterns, places, and paths with their local files
+abbrev Pattern : Type 0
+Pattern = taken_by (found_by [])
+
+abbrev FolderPlace : Type 0
+FolderPlace = given_by (place_in [])
+
+abbrev FoundFiles : Type 0
+FoundFiles = given_by (found_files [])
 
 -- paths of which none is that of the freeze file, or a refusal
 abbrev pub AreOthers : Result (List Bytes) Refusal → Type 0
@@ -29,7 +37,7 @@ AreOthers (Err refusal) = Unit {0}
 
 cabal-other : (dir name : Bytes) → is_cabal name ≡ true → is_other (path_in dir name) ≡ true
 cabal-other [] name h = other-by is_cabal refl name h
-cabal-other (b ∷ bs) name h = slash-other (b ∷ bs) name
+cabal-other (b ∷ bs) name h = slash-other (path_in (b ∷ bs) name) (slash-inside (b ∷ bs) name)
 
 others-in : (dir : Bytes) (names : List Name) → list_all is_other (cabal_in dir names) ≡ true
 others-in dir names = all-from is_other (cabal_in dir names) (λ path k.
@@ -56,7 +64,7 @@ others-found files folders (place ∷ ps) =
 
 others-judged : (entry : ProjectEntry) (crowded : Option Bytes) (paths : List Bytes) → list_all is_other paths ≡ true → AreOthers (unless_crowded crowded entry paths)
 others-judged entry (Some dir) paths h = tt
-others-judged entry None [] h = elim entry.optional as (λ t. AreOthers (if t then Ok [] else _)) [ true ↦ refl | false ↦ tt ]
+others-judged entry None [] h = elim entry.optional as (λ t. AreOthers (if t then Ok [] else Err (refusal_of entry NoMatch entry.text))) [ true ↦ refl | false ↦ tt ]
 others-judged entry None (path ∷ paths) h = h
 
 others-by : (files : Files) (entry : ProjectEntry) (pattern : Option Pattern) → AreOthers (files_by files entry pattern)

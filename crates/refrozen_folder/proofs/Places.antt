@@ -10,18 +10,25 @@ use Rattle.plan_types.specs.Bytes.{same_text}
 use Rattle.plan_types.specs.declared.project.ProjectEntry.{ProjectEntry}
 use Rattle.outside_folder.specs.declared.folder.Name.{Name}
 use Rattle.outside_folder.specs.Files.{Bytes, Files, as_names, names_in as listed_in}
-use Rattle.project_paths.specs.Entries.{entry_files, files_by, first_crowded, is_crowded, judged, least, unless_crowded}
-use Rattle.project_paths.specs.Found.{cabal_in, files_of, found_at, found_files, is_cabal_file, is_local}
+use Rattle.project_paths.specs.Entries.{files_by, is_crowded, judged, least, unless_crowded}
+use Rattle.project_paths.specs.Found.{cabal_in, found_at, found_by, found_files, is_cabal_file, is_local}
 use Rattle.project_paths.specs.Listings.{names_in}
 use Rattle.project_paths.specs.Local.{all_files, and_then, finished_of, local_files}
 use Rattle.project_paths.specs.Patterns.{pattern_of}
 use Rattle.project_paths.specs.Places.{below, is_matched, names_at, path_in, place_in, places, root}
-use Rattle.project_paths.specs.declared.found.FoundFiles.{FoundFiles}
-use Rattle.project_paths.specs.declared.pattern.Pattern.{Pattern}
-use Rattle.project_paths.specs.declared.places.FolderPlace.{FolderPlace}
 use Rattle.refrozen_folder.specs.Refrozen.{IsRefrozen, freeze_path}
-use Rattle.refrozen_folder.proofs.Lists.{filter-flat, filter-map, flat-alike, flat-map, flat-same, map-filter}
+use Rattle.refrozen_folder.proofs.Lists.{filter-flat, filter-map, flat-alike, flat-map, flat-same, given_by, map-filter, taken_by}
 use Rattle.refrozen_folder.proofs.Root.{Entry, as_name, inserted, same-listed}
+
+-- patterns, places, and paths with their local files
+abbrev Pattern : Type 0
+Pattern = taken_by (found_by [])
+
+abbrev FolderPlace : Type 0
+FolderPlace = given_by (place_in [])
+
+abbrev FoundFiles : Type 0
+FoundFiles = given_by (found_files [])
 
 -- whether a place isn't the freeze file
 abbrev is_kept : FolderPlace → Bool

@@ -1,13 +1,13 @@
 -- What the root lists, and paths that aren't that of the freeze file.
-use Rattle.std.proofs.Common.{◌≡◌, ℕ, Bool, true, false, cond, not, ◌&&◌, ◌||◌, List, [], ◌∷◌, ◌++◌, map, flat_map, refl, sym, ap, ◌∙◌, subst}
-use Rattle.std.specs.Prelude.{◌==◌, codes, nat_eq, filter, unwrap_or}
+use Rattle.std.proofs.Common.{◌≡◌, Bool, true, false, cond, not, ◌&&◌, ◌||◌, List, [], ◌∷◌, ◌++◌, map, flat_map, refl, sym, ap, ◌∙◌, subst}
+use Rattle.std.specs.Prelude.{◌==◌, codes, filter, unwrap_or}
 use Rattle.std.specs.BTreeMap.{insert_entry}
 use Rattle.std.specs.Cmp.Lexicographic.{slice_cmp, texts_ties}
-use Rattle.std.specs.List.{list_all, list_any}
+use Rattle.std.specs.List.{list_any}
 use Rattle.std.specs.Ordering.{is_eq, match_ordering, nat_cmp}
 use Rattle.std.specs.declared.cmp.Ordering.{Ordering}
 use Rattle.std.specs.declared.cmp.Ordering.TheVariants.{Less, Equal, Greater}
-use Rattle.std.proofs.lemmas.Bool.{and_from, and_parts, false≢true, or_left, or_right}
+use Rattle.std.proofs.lemmas.Bool.{false≢true, or_left, or_right}
 use Rattle.std.proofs.lemmas.List.Folds.{list_any-append}
 use Rattle.common_laws.specs.Small.{same-is}
 use Rattle.plan_types.specs.Bytes.{same_text}
@@ -44,12 +44,21 @@ other-by test fails path passes =
       | false ↦ λ no. refl
     ] refl
 
-abbrev has_slash : Bytes → Bool
+-- whether a path leads into a directory
+abbrev pub has_slash : Bytes → Bool
 has_slash path = list_any (λ b. b == 47) path
 
-pub slash-other : (a rest : Bytes) → is_other (a ++ 47 ∷ rest) ≡ true
-slash-other a rest =
-    other-by has_slash refl (a ++ 47 ∷ rest) (list_any-append (λ b. b == 47) a (47 ∷ rest) ∙ or_right (has_slash a) (has_slash (47 ∷ rest)) refl)
+pub slash-inside : (dir rest : Bytes) → has_slash (dir ++ 47 ∷ rest) ≡ true
+slash-inside dir rest = list_any-append (λ b. b == 47) dir (47 ∷ rest) ∙ or_right (has_slash dir) (has_slash (47 ∷ rest)) refl
+
+pub slash-last : (dir : Bytes) → has_slash (dir ++ codes "/") ≡ true
+slash-last dir = slash-inside dir []
+
+pub slash-before : (dir more : Bytes) → has_slash dir ≡ true → has_slash (dir ++ more) ≡ true
+slash-before dir more h = list_any-append (λ b. b == 47) dir more ∙ or_left (has_slash dir) (has_slash more) h
+
+pub slash-other : (path : Bytes) → has_slash path ≡ true → is_other path ≡ true
+slash-other = other-by has_slash refl
 
 -- ---- entries
 

@@ -1,4 +1,4 @@
-use Rattle.std.proofs.Common.{Ok, subst}
+use Rattle.std.proofs.Common.{subst}
 use Rattle.refrozen_folder.proofs.Index.{same-index}
 use Rattle.refrozen_folder.proofs.Locals.{AreOthers, locals-other}
 use Rattle.refrozen_folder.proofs.Places.{same-locals}
