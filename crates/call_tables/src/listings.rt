@@ -1,5 +1,6 @@
 // A folder's files, the entries of a project, and the number of calls on the folder that these take. `!` is for a
-// folder without `cabal.project`; an entry with `?` may match nothing. A name without a star needs no listing.
+// folder without `cabal.project`; an entry with `?` may match nothing. Of the names without a star, those in `.cabal`
+// need a listing.
 use outside_folder::{MemFile, MemFolder};
 use plan_types::{Halt, Limit, List, NoMemory, Project, ProjectEntry, Text};
 use project_paths::find_packages;
@@ -18,7 +19,7 @@ x/p.cabal y/p.cabal; */p.cabal => 3
 a.txt b/p.cabal; * => 2
 x/p.cabal; x/p.cabal/*,x => 1
 x/p.cabal; gone,x => 1
-x/p.cabal; gone.cabal,x => 2
+x/p.cabal; gone.cabal,x => 1
 x/p.cabal; gone.txt?,x//p.cabal?,x => 2
 x/p.cabal; /x,x => 0
 ";
