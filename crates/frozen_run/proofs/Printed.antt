@@ -19,13 +19,11 @@ use Rattle.plan_search.specs.declared.search.Picking.TheVariants.{Least}
 use Rattle.plan_search.specs.Finding.{IsFindingOf}
 use Rattle.plan_task.specs.Task.{IsTask}
 use Rattle.plan_task.specs.declared.task.Task.{Task}
-use Rattle.plan_command.specs.declared.form.Form.{Form}
-use Rattle.plan_command.specs.declared.output.Output.{Output}
 use Rattle.plan_command.specs.Form.{frozen_form}
 use Rattle.plan_command.specs.Meaning.{PlansFirst}
 use Rattle.plan_command.specs.Output.{ArePlanned, IsOutputOfOutcome, IsPlanned}
 use Rattle.plan_command.specs.Run.{IsOutputOfPlan, IsOutputOfRead, IsOutputOfTask}
-use Rattle.frozen_run.specs.Again.{IsFoundAgain, IsPlannedAgain, settings_with, unlimited}
+use Rattle.frozen_run.specs.Again.{Form, IsFoundAgain, IsPlannedAgain, Output, settings_with, unlimited}
 use Rattle.frozen_run.proofs.Found.{FoundAgain, OneFinding, found-again}
 use Rattle.frozen_run.proofs.Tasks.{HasFrozenTask}
 

@@ -20,10 +20,8 @@ use Rattle.plan_search.specs.declared.blame.Blame.TheVariants.{Unasked}
 use Rattle.plan_search.specs.declared.search.Finding.{Finding}
 use Rattle.plan_task.specs.declared.task.Task.{Task}
 use Rattle.plan_nodes.specs.declared.node.PlanNode.{PlanNode}
-use Rattle.plan_command.specs.declared.form.Form.{Form}
-use Rattle.plan_command.specs.Form.{old_freeze_text}
-use Rattle.plan_command.specs.declared.output.Output.{Output}
-use Rattle.plan_command.specs.Output.{IsPlanned}
+use Rattle.plan_command.specs.Form.{form_of, old_freeze_text}
+use Rattle.plan_command.specs.Output.{IsPlanned, refused}
 use Rattle.plan_command.specs.Run.{IsOutputOfPlan}
 
 -- the settings with these constraints in place of the project's, and without a limit
@@ -55,6 +53,18 @@ pub record IsFrozenTask (names : NameTable) (trail : List Choice) (task now : Ta
   pub union : IsUnion constraints task.settings.project.constraints (frozen task.index.packages names trail)
   pub settings_are : now.settings ≡ settings_with constraints task.settings
   pub index_is : now.index ≡ task.index
+
+-- the type of what a function gives
+abbrev given_by : {A B : Type 0} → (A → B) → Type 0
+given_by {B = B} f = B
+
+-- the form in which an answer is printed
+abbrev pub Form : Type 0
+Form = given_by form_of
+
+-- a status with a text
+abbrev pub Output : Type 0
+Output = given_by refused
 
 -- an output is that of a plan of this trail with these nodes, with some counts
 abbrev pub IsPlannedAgain : Form → Index → NameTable → List Choice → List PlanNode → Output → Type 0
