@@ -1,5 +1,5 @@
 -- What a run prints of a folder with a printed freeze file.
-use Rattle.std.proofs.Common.{◌≡◌, Bool, List, Result, Ok, refl, sym, ap, ◌∙◌, subst}
+use Rattle.std.proofs.Common.{◌≡◌, Bool, List, Result, Ok, subst}
 use Rattle.plan_types.specs.declared.condition.Env.{Env}
 use Rattle.plan_types.specs.declared.index.Index.{Index}
 use Rattle.plan_types.specs.declared.project.Settings.{Settings}
@@ -23,7 +23,7 @@ use Rattle.plan_command.specs.Form.{frozen_form}
 use Rattle.plan_command.specs.Meaning.{PlansFirst}
 use Rattle.plan_command.specs.Output.{ArePlanned, IsOutputOfOutcome, IsPlanned}
 use Rattle.plan_command.specs.Run.{IsOutputOfPlan, IsOutputOfRead, IsOutputOfTask}
-use Rattle.frozen_run.specs.Again.{Form, IsFoundAgain, IsPlannedAgain, Output, settings_with, unlimited}
+use Rattle.frozen_run.specs.Again.{Form, IsFoundAgain, IsPlannedAgain, Output, unlimited}
 use Rattle.frozen_run.proofs.Found.{FoundAgain, OneFinding, found-again}
 use Rattle.frozen_run.proofs.Tasks.{HasFrozenTask}
 

@@ -1,5 +1,5 @@
 -- The task of a folder with a printed freeze file.
-use Rattle.std.proofs.Common.{◌≡◌, ℕ, true, false, ◌||◌, List, Result, Ok, Err, refl, sym, ap, ◌∙◌, subst}
+use Rattle.std.proofs.Common.{◌≡◌, ◌||◌, List, Result, Ok, Err, refl, sym, ap, ◌∙◌, subst}
 use Rattle.std.specs.Prelude.{codes, if◌then◌else◌}
 use Rattle.std.specs.List.{AllByRecursion, list_any}
 use Rattle.plan_types.specs.declared.condition.Env.{Env}
@@ -25,8 +25,7 @@ use Rattle.choice_problem.specs.declared.problem.Choice.{Choice}
 use Rattle.choice_problem.specs.General.{General}
 use Rattle.choice_problem.specs.Trail.{value_in}
 use Rattle.choice_problem.specs.Valid.{IsWholeValid}
-use Rattle.freeze_text.specs.Reads.{Adds, IsPlainConstraint, with_constraints}
-use Rattle.freeze_text.specs.Text.{refrozen_text}
+use Rattle.freeze_text.specs.Reads.{IsPlainConstraint, with_constraints}
 use Rattle.frozen_choices.specs.Frozen.{frozen}
 use Rattle.frozen_choices.specs.Plain.{AreInDomains}
 use Rattle.frozen_choices.proofs.DistinctChoices.{valid-in-domains}

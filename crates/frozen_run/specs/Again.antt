@@ -1,5 +1,5 @@
 -- A folder with a printed freeze file, and the plan that is found again.
-use Rattle.std.specs.Prelude.{◌≡◌, ℕ, false, nat_lt, List, length, Some}
+use Rattle.std.specs.Prelude.{◌≡◌, false, nat_lt, List, length, Some}
 use Rattle.plan_types.specs.declared.constraint.Constraint.{Constraint}
 use Rattle.plan_types.specs.declared.index.Index.{Index}
 use Rattle.plan_types.specs.declared.limit.Limit.TheVariants.{Unlimited}

@@ -1,4 +1,4 @@
-use Rattle.std.proofs.Common.{◌≡◌, Ok, Result, sym, subst}
+use Rattle.std.proofs.Common.{◌≡◌, Ok, Result, subst}
 use Rattle.plan_types.specs.declared.refusal.Refusal.{Refusal}
 use Rattle.plan_task.specs.declared.task.Task.{Task}
 use Rattle.frozen_run.specs.Again.{IsFrozenTask, unlimited}
