@@ -29,6 +29,11 @@ refused refusal = record { status = status.Refused; text = refusal_text refusal 
 abbrev pub ArePlanned : Env → Index → NameTable → List Choice → List PlanNode → Type 0
 ArePlanned env index names trail nodes = IsPlan (selection_from index names env (value_in trail)) nodes
 
+-- the text of the plan that a trail makes, in a form
+abbrev pub IsTextOfPlan : Form → Env → Index → NameTable → List Choice → Counts → Bytes → Type 0
+IsTextOfPlan form env index names trail counts text =
+    (nodes : List PlanNode) × ArePlanned env index names trail nodes × IsPlanText form index names trail nodes counts text
+
 -- the output of a plan
 pub record IsPlanned (form : Form) (index : Index) (names : NameTable) (trail : List Choice) (nodes : List PlanNode) (counts : Counts) (output : Output) : Type 0 where
   pub status_is : output.status ≡ status.Planned

@@ -1,12 +1,17 @@
 // The form in which an answer is printed.
 ghost use Rattle.std.specs.Prelude.{◌≡◌, IfOk};
 ghost use Rattle.choice_problem.specs.Trail.{AreNew};
-ghost use Rattle.plan_command.specs.Form.{IsPlanText, conflict_text_in, form_of, gave_up_text_in, is_json, not_shrunk_text_in, shrunk_text_in, summary_of, unshrunk_text_in};
+ghost use Rattle.flatten.specs.Sound.{IsSound};
+ghost use Rattle.plan_command.specs.Form.{conflict_text_in, form_of, gave_up_text_in, is_json, not_shrunk_text_in, shrunk_text_in, summary_of, unshrunk_text_in};
+ghost use Rattle.plan_command.specs.Output.{IsTextOfPlan};
+ghost use Rattle.plan_print.specs.Texts.{plan_text};
 
 use crate::freeze::frozen_text;
 use choice_problem::{Choice, ConflictSet, Counts};
 use command_line::Options;
 use conflict_shrink::Shrunk;
+use elaborate::elaborate;
+use plan_answers::some_plan;
 use plan_json::{
     json_of_conflict, json_of_giving_up, json_of_not_shrunk, json_of_plan, json_of_shrunk,
 };
@@ -16,7 +21,7 @@ use plan_print::{
     text_of_summary,
 };
 use plan_search::Blame;
-use plan_types::{Index, List, NoMemory, Text};
+use plan_types::{Env, Index, List, NoMemory, Text};
 use qualified_goals::Names;
 use replay_text::{JobEvent, replay_text};
 use sha2::{Digest, Sha256};
@@ -48,43 +53,56 @@ pub(crate) fn form_of(options: &Options) -> Form
     }
 }
 
+/// The text of the plan that a trail makes. Its nodes are made only where the form prints them.
 pub(crate) fn plan_text_in(
     alloc: Global,
     form: &Form,
+    env: &Env,
+    trail: &List<Choice>,
+    index: &Index,
+    names: &Names,
+    counts: Counts,
+) -> Result<Text, NoMemory>
+    requires sound { IsSound env.now index.now }
+    requires new { AreNew trail.now }
+    ensures { IfOk result (IsTextOfPlan form.now env.now index.now names.now trail.now counts) }
+{
+    some_plan();
+    match form {
+        Form::Lines => {
+            let nodes = elaborate(alloc, trail.as_slice(), index, names, env)?;
+            text_of_plan(alloc, trail, index, names, &nodes, counts)
+        }
+        Form::Json => {
+            let nodes = elaborate(alloc, trail.as_slice(), index, names, env)?;
+            json_of_plan(alloc, trail, index, names, &nodes, counts)
+        }
+        Form::Summary(number) => {
+            let nodes = elaborate(alloc, trail.as_slice(), index, names, env)?;
+            summary_of(alloc, *number, trail, index, names, &nodes, counts)
+        }
+        Form::Freeze(before) => frozen_text(alloc, before, trail, index, names),
+        Form::Replay { slots, events } => {
+            let nodes = elaborate(alloc, trail.as_slice(), index, names, env)?;
+            replay_text(alloc, nodes.as_slice(), *slots, events.as_slice())
+        }
+    }
+}
+
+// The summary of a plan with these nodes.
+fn summary_of(
+    alloc: Global,
+    number: u32,
     trail: &List<Choice>,
     index: &Index,
     names: &Names,
     nodes: &List<PlanNode>,
     counts: Counts,
 ) -> Result<Text, NoMemory>
-    requires { AreNew trail.now }
-    ensures { IfOk result (IsPlanText form.now index.now names.now trail.now nodes.now counts) }
+    ensures { IfOk result (λ summary. summary ≡ summary_of number trail.now nodes.now counts
+        (plan_text index.now names.now trail.now nodes.now counts)) }
 {
-    match form {
-        Form::Lines => text_of_plan(alloc, trail, index, names, nodes, counts),
-        Form::Json => json_of_plan(alloc, trail, index, names, nodes, counts),
-        Form::Summary(number) => {
-            let text = text_of_plan(alloc, trail, index, names, nodes, counts)?;
-            summary_of(alloc, *number, trail, nodes, counts, &text)
-        }
-        Form::Freeze(before) => frozen_text(alloc, before, trail, index, names),
-        Form::Replay { slots, events } => {
-            replay_text(alloc, nodes.as_slice(), *slots, events.as_slice())
-        }
-    }
-}
-
-// The summary of a plan of this text.
-fn summary_of(
-    alloc: Global,
-    number: u32,
-    trail: &List<Choice>,
-    nodes: &List<PlanNode>,
-    counts: Counts,
-    text: &Text,
-) -> Result<Text, NoMemory>
-    ensures { IfOk result (λ summary. summary ≡ summary_of number trail.now nodes.now counts text.now) }
-{
+    let text = text_of_plan(alloc, trail, index, names, nodes, counts)?;
     let digest = hex::encode(alloc, Sha256::digest(text.as_bytes()))?;
     let choices = trail.len();
     let nodes = nodes.len();

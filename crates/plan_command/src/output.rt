@@ -11,7 +11,6 @@ ghost use Rattle.plan_command.specs.Output.{HasOutput, IsOutputOfOutcome, refuse
 use crate::Status;
 use crate::form::{Form, conflict_text_in, gave_up_text_in, plan_text_in};
 use choice_problem::Outcome;
-use elaborate::elaborate;
 use outside_folder::Trouble;
 use plan_print::text_of_refusal;
 use plan_search::Finding;
@@ -69,13 +68,10 @@ pub(crate) fn output_of_finding(
 {
     let names = &finding.names;
     match &finding.outcome {
-        Outcome::Found { trail, counts } => {
-            let nodes = elaborate(alloc, trail.as_slice(), index, names, env)?;
-            Ok(Output {
-                status: Status::Planned,
-                text: plan_text_in(alloc, form, trail, index, names, &nodes, *counts)?,
-            })
-        }
+        Outcome::Found { trail, counts } => Ok(Output {
+            status: Status::Planned,
+            text: plan_text_in(alloc, form, env, trail, index, names, *counts)?,
+        }),
         Outcome::NoPlan { set, counts } => Ok(Output {
             status: Status::NoPlan,
             text: conflict_text_in(alloc, form, set, &finding.blame, index, names, *counts)?,
