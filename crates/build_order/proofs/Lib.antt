@@ -3,3 +3,4 @@ pub mod OrderInvariant
 pub mod OneOrder
 pub mod Walk
 pub mod PlacedNodes
+pub mod SomeOrder

@@ -1,4 +1,4 @@
--- Shared: the invariant of a build order under construction, from begin to end.
+-- The invariant of a build order under construction, from begin to end.
 use Rattle.std.proofs.Common.{◌≡◌, ◌<◌, ◌≤◌, ◌+◌, ◌⊎◌, ◌↔◌, inl, inr, ⊎_elim, ℕ, zero, suc, Bool, true, false, not, cond, List, [], ◌∷◌, ◌++◌, length, get_or, set, replicate, refl, sym, subst, ap, ◌∙◌, arith, length-append}
 use Rattle.std.specs.Prelude.{Contains, All, count_by}
 use Rattle.std.proofs.lemmas.Bool.{cases_eq, cases_lt}
@@ -9,7 +9,7 @@ use Rattle.std.proofs.lemmas.Bool.{false_from_ne_true}
 use Rattle.build_order.specs.declared.building.Wait.{Wait}
 use Rattle.build_order.specs.declared.building.Building.{Building}
 use Rattle.build_order.specs.Order.{IsReady, IsLeastReady, IsBuildOrder}
-use Rattle.common_laws.specs.Lists.{contains-none}
+use Rattle.common_laws.specs.Lists.{contains-none, push_split}
 use Rattle.common_laws.specs.Graphs.{IsMarked, Needs}
 use Rattle.build_order.specs.Building.{AreMet, IsFirstUnmet, IsTakenAsLeast, IsMetBefore, IsWait, NoNode, Alone, Keeps, IsSound, BecomesReady, HasToWait, needs_of}
 
@@ -17,17 +17,6 @@ pub default_past : {X : Type 0} (n i : ℕ) (d : X) → get_or (replicate n d) i
 default_past zero i d = refl
 default_past (suc n) zero d = refl
 default_past (suc n) (suc i) d = default_past n i d
-
--- a split of a list with one more item at its end
-pub push_split : {X : Type 0} (front order rest : List X) (u node : X) → order ++ node ∷ [] ≡ front ++ u ∷ rest
-    → ((front ≡ order) × (u ≡ node)) ⊎ ((less : List X) × (order ≡ front ++ u ∷ less))
-push_split [] [] rest u node e = inl (refl, sym (ap (λ l. get_or l 0 node) e))
-push_split [] (x ∷ xs) rest u node e = inr (xs, ap (λ k. k ∷ xs) (ap (λ l. get_or l 0 x) e))
-push_split (f ∷ fs) [] rest u node e = absurd (omega (arith, ap length e, length-append fs (u ∷ rest)))
-push_split (f ∷ fs) (x ∷ xs) rest u node e =
-    let h : x ≡ f = ap (λ l. get_or l 0 x) e in
-    ⊎_elim (λ b. inl (ap (λ l. f ∷ l) b.0 ∙ ap (λ k. k ∷ xs) (sym h), b.1)) (λ b. inr (b.0, ap (λ k. k ∷ xs) h ∙ ap (λ l. f ∷ l) b.1))
-    (push_split fs xs rest u node (ap (λ (l : List _). elim l [ [] ↦ [] | y ∷ ys ↦ ys ]) e))
 
 -- u is the node of one of these waits
 abbrev pub IsIn : List Wait → ℕ → Type 0

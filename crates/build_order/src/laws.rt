@@ -3,6 +3,11 @@ ghost use Rattle.std.specs.Prelude.{◌≡◌, ℕ, List};
 ghost use Rattle.build_order.specs.Order.{AreBehindNeeds, HasAll, IsBuildOrder};
 ghost use Rattle.common_laws.specs.Graphs.{HasNoCycle, IsGraph, Needs};
 
+/// Any lists of needs have a build order, even with cycles.
+pub fn some_order()
+    ensures { (needs : List (List ℕ)) → (order : List ℕ) × IsBuildOrder needs order }
+{}
+
 /// The build order of a graph is unique.
 pub fn one_order()
     ensures { (needs : List (List ℕ)) (a b : List ℕ) → IsBuildOrder needs a → IsBuildOrder needs b → a ≡ b }

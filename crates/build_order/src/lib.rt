@@ -9,5 +9,5 @@ mod laws;
 mod order;
 mod ready;
 
-pub use laws::{each_behind_its_needs, every_node_is_placed, one_order};
+pub use laws::{each_behind_its_needs, every_node_is_placed, one_order, some_order};
 pub use order::build_order;

@@ -1,5 +1,5 @@
 -- In a sound index all packages and flags of an instance's demands exist, and its ranges have well-formed versions.
-use Rattle.std.proofs.Common.{◌≡◌, ℕ, suc, ◌+◌, ◌<◌, Bool, true, false, cond, not, ◌&&◌, ◌||◌, nat_eq, List, [], ◌∷◌, ◌++◌, length, map, flat_map, Some, None, refl, sym, ap, ◌∙◌, subst, inl, inr, arith}
+use Rattle.std.proofs.Common.{◌≡◌, ℕ, ◌+◌, ◌<◌, true, false, cond, not, ◌&&◌, ◌||◌, nat_eq, List, [], ◌∷◌, ◌++◌, length, map, flat_map, Some, None, refl, sym, ap, ◌∙◌, subst, inl, inr, arith}
 use Rattle.std.specs.Prelude.{unwrap_or, Contains}
 use Rattle.std.specs.List.{AllByRecursion, list_all, list_any, position_or_len}
 use Rattle.std.specs.Cmp.Lexicographic.{pointwise}
@@ -27,9 +27,10 @@ use Rattle.flatten.specs.Sound.{IsSound, IsPackage, IsEntry, IsSource, has_packa
 use Rattle.version_range.specs.Version.{has_versions, is_version}
 use Rattle.qualified_goals.specs.declared.variable.Qual.TheVariants.{Top}
 use Rattle.qualified_goals.specs.declared.variable.Part.TheVariants.{Flag}
+use Rattle.qualified_goals.proofs.OwnNumbers.{self}
 use Rattle.qualified_goals.specs.Names.{Name, NameTable, AreNumbers, is_listed, flags_in, flag_names, number_of, package_names}
 use Rattle.constraint_set.specs.Bars.{is_number}
-use Rattle.common_laws.specs.Lists.{contains-none, contains-cases, contains-left, contains-right, contains-map, map-contains, contains-filter, contains-flat_map, flat_map-contains, all-at, all-from, any-at, any-from}
+use Rattle.common_laws.specs.Lists.{contains-none, contains-cases, contains-left, contains-right, contains-map, map-contains, contains-filter, contains-flat_map, flat_map-contains, all-at, all-from, any-at, any-from, place-below}
 use Rattle.solver_index.specs.Places.{rising, number, flag_number}
 use Rattle.cabal_problem.specs.Variables.{is_tool, is_tool_of, component_depends, depends_on_tool, declares, is_part}
 use Rattle.cabal_problem.specs.Values.{is_flag}
@@ -47,26 +48,14 @@ each-at P (y ∷ xs) x h k = elim (contains-cases y xs x k) [ inl e ↦ subst P 
 
 -- ---- names
 
-same-self : (a : Name) → pointwise nat_eq a a ≡ true
-same-self [] = refl
-same-self (x ∷ a) = and_from (nat_eq x x) (pointwise nat_eq a a) (eq-eqb x x refl) (same-self a)
-
 listed-from : (names : List Name) (name : Name) → Contains names name → is_listed names name ≡ true
-listed-from names name h = any-from (same_text name) names name h (same-self name)
+listed-from names name h = any-from (same_text name) names name h (self name)
 
 -- a listed name has a place
 record HasPlace (names : List Name) (name : Name) : Type 0 where
   place : ℕ
   below : place < length names
   is : number_of names name ≡ Some place
-
-place-below : (test : Name → Bool) (names : List Name) → list_any test names ≡ true → position_or_len test names < length names
-place-below test [] h = absurd (false≢true h)
-place-below test (n ∷ names) h =
-    elim (test n) as (λ b. test n ≡ b → b || list_any test names ≡ true → cond (not b) (1 + position_or_len test names) 0 < suc (length names)) [
-      | true ↦ λ e k. omega arith
-      | false ↦ λ e k. let rest = place-below test names k in omega (arith, rest)
-    ] refl h
 
 listed-place : (names : List Name) (name : Name) → is_listed names name ≡ true → HasPlace names name
 listed-place names name h =

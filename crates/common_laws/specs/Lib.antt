@@ -3,3 +3,4 @@ pub mod Lists
 pub mod Each
 pub mod Passing
 pub mod Graphs
+pub mod Decidability

@@ -1,8 +1,8 @@
 -- Lemmas on lists: members, tests of all and of some, filters, pairs, and indices.
-use Rattle.std.proofs.Common.{◌≡◌, ◌≢◌, ℕ, zero, suc, ◌+◌, ◌<◌, Bool, true, false, cond, ◌&&◌, ◌||◌, List, [], ◌∷◌, ◌++◌, length, map, take, drop, get_or, refl, sym, ap, ◌∙◌, subst, inl, inr, arith, ◌⊎◌, add-one}
-use Rattle.std.specs.List.{Contains, All, AllPairs, filter, flat_map, list_all, list_any}
+use Rattle.std.proofs.Common.{◌≡◌, ◌≢◌, ℕ, zero, suc, ◌+◌, ◌<◌, Bool, true, false, cond, not, ◌&&◌, ◌||◌, List, [], ◌∷◌, ◌++◌, length, map, take, drop, get_or, refl, sym, ap, ◌∙◌, subst, inl, inr, arith, ◌⊎◌, ⊎_elim, add-one, length-append}
+use Rattle.std.specs.List.{Contains, All, AllPairs, filter, flat_map, list_all, list_any, position_or_len}
 use Rattle.std.proofs.Math.Seq.{drop-cons}
-use Rattle.std.proofs.lemmas.Bool.{false≢true, and_parts, and_from, or_cases, or_left, or_right}
+use Rattle.std.proofs.lemmas.Bool.{false≢true, and_parts, and_from}
 use Rattle.std.proofs.lemmas.List.{take_more}
 use Rattle.std.proofs.lemmas.List.Elements.{Contains-get_or}
 
@@ -246,3 +246,25 @@ take_at xs i x h is = take_more xs i x h ∙ ap (λ v. take i xs ++ v ∷ []) (s
 pub map-nil : {X Y : Type 0} (f : X → Y) (xs : List X) → map f xs ≡ [] → xs ≡ []
 map-nil f [] h = refl
 map-nil f (x ∷ xs) h = absurd (cc h)
+
+-- ---- places
+
+-- a split of a list with one more item at its end
+pub push_split : {X : Type 0} (front order rest : List X) (u node : X) → order ++ node ∷ [] ≡ front ++ u ∷ rest
+    → ((front ≡ order) × (u ≡ node)) ⊎ ((less : List X) × (order ≡ front ++ u ∷ less))
+push_split [] [] rest u node e = inl (refl, sym (ap (λ l. get_or l 0 node) e))
+push_split [] (x ∷ xs) rest u node e = inr (xs, ap (λ k. k ∷ xs) (ap (λ l. get_or l 0 x) e))
+push_split (f ∷ fs) [] rest u node e = absurd (omega (arith, ap length e, length-append fs (u ∷ rest)))
+push_split (f ∷ fs) (x ∷ xs) rest u node e =
+    let h : x ≡ f = ap (λ l. get_or l 0 x) e in
+    ⊎_elim (λ b. inl (ap (λ l. f ∷ l) b.0 ∙ ap (λ k. k ∷ xs) (sym h), b.1)) (λ b. inr (b.0, ap (λ k. k ∷ xs) h ∙ ap (λ l. f ∷ l) b.1))
+    (push_split fs xs rest u node (ap (λ (l : List _). elim l [ [] ↦ [] | y ∷ ys ↦ ys ]) e))
+
+-- where some member passes a test, the first of them has a place
+pub place-below : {X : Type 0} (test : X → Bool) (xs : List X) → list_any test xs ≡ true → position_or_len test xs < length xs
+place-below test [] h = absurd (false≢true h)
+place-below test (x ∷ xs) h =
+    elim (test x) as (λ b. test x ≡ b → b || list_any test xs ≡ true → cond (not b) (1 + position_or_len test xs) 0 < suc (length xs)) [
+      | true ↦ λ e k. omega arith
+      | false ↦ λ e k. let rest = place-below test xs k in omega (arith, rest)
+    ] refl h

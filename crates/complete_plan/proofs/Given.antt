@@ -1,15 +1,12 @@
 -- What is chosen by an assignment that holds within all known variables, and what its demands say.
-use Rattle.std.proofs.Common.{◌≡◌, ◌<◌, ◌+◌, ℕ, zero, suc, Bool, true, false, cond, not, nat_eq, inr, List, [], ◌∷◌, length, get_or, Option, Some, None, slice_get, refl, sym, ap, ◌∙◌, subst, arith}
-use Rattle.std.specs.List.{AllByRecursion, Contains, IsDistinct, position_or_len}
+use Rattle.std.proofs.Common.{◌≡◌, ◌<◌, ℕ, Bool, true, false, nat_eq, inr, List, [], length, get_or, Option, Some, None, slice_get, refl, sym, ap, ◌∙◌, subst}
+use Rattle.std.specs.List.{Contains}
 use Rattle.std.specs.Option.{option_and_then, option_map, unwrap_or}
-use Rattle.std.proofs.lemmas.Bool.{eqb-true, false≢true, lt-ltb}
+use Rattle.std.proofs.lemmas.Bool.{eqb-true, false≢true}
 use Rattle.std.proofs.lemmas.List.{get_or-map, length-map}
 use Rattle.std.proofs.lemmas.Option.{get_or_from_slice_get, none-some, same_Some, slice_get-get_or, slice_get_within}
-use Rattle.std.proofs.lemmas.Slice.Eq.{bytes_eq-Decides}
 use Rattle.common_laws.specs.Each.{each-at}
 use Rattle.common_laws.specs.Lists.{any-at}
-use Rattle.common_laws.specs.Small.{same-is}
-use Rattle.plan_types.specs.Bytes.{same_text}
 use Rattle.plan_types.specs.Packages.{entries_of, no_package, package_at}
 use Rattle.plan_types.specs.declared.condition.Env.{Env}
 use Rattle.plan_types.specs.declared.dependency.Dep.{Dep}
@@ -23,7 +20,8 @@ use Rattle.plan_types.specs.declared.version.Version.{Version}
 use Rattle.flatten.specs.Sound.{IsBody, IsEntry, IsPackage, IsSound, instance_of}
 use Rattle.qualified_goals.specs.declared.variable.Qual.{Qual}
 use Rattle.qualified_goals.specs.declared.variable.Var.{Var}
-use Rattle.qualified_goals.specs.Names.{AreNumbers, Name, NameTable, number_of, package_names}
+use Rattle.qualified_goals.proofs.OwnNumbers.{own-number}
+use Rattle.qualified_goals.specs.Names.{AreNumbers, NameTable, number_of, package_names}
 use Rattle.choice_problem.specs.declared.problem.Choice.{Choice}
 use Rattle.choice_problem.specs.Assignment.{Assignment, is_one_of}
 use Rattle.choice_problem.specs.General.{General, Request}
@@ -50,39 +48,6 @@ pub record Given : Type 0 where
   pub numbers : AreNumbers index.packages names
   pub known : (r : Request) → IsDemand (whole_problem env index.packages project names orders) r → r.is_yes assignment ≡ true → is_known index.packages names r.target ≡ true
   pub holds : HoldsWithin (whole_problem env index.packages project names orders) (whole_problem env index.packages project names orders).known assignment
-
--- ---- a name has its own number
-
-self : (name : Name) → same_text name name ≡ true
-self name = (bytes_eq-Decides name name).1 refl
-
-apart-at : (n : Name) (ns : List Name) (p : ℕ) → AllByRecursion (λ m. same_text n m ≡ false) ns → p < length ns → same_text n (get_or ns p []) ≡ false
-apart-at n [] p h lt = absurd (omega (arith, lt))
-apart-at n (m ∷ ns) zero h lt = h.0
-apart-at n (m ∷ ns) (suc p) h lt = apart-at n ns p h.1 (omega (arith, lt))
-
-flipped : (m n : Name) → same_text n m ≡ false → same_text m n ≡ false
-flipped m n h =
-    elim (same_text m n) as (λ b. same_text m n ≡ b → b ≡ false) [
-      | true ↦ λ e. absurd (false≢true (sym h ∙ ap (same_text n) (same-is m n e) ∙ self n))
-      | false ↦ λ e. refl
-    ] refl
-
-own-place : (ns : List Name) (p : ℕ) → IsDistinct same_text ns → p < length ns → position_or_len (same_text (get_or ns p [])) ns ≡ p
-unfolding IsDistinct
-own-place [] p h lt = absurd (omega (arith, lt))
-own-place (n ∷ ns) zero h lt = ap (λ b. cond (not b) (1 + position_or_len (same_text n) ns) 0) (self n)
-own-place (n ∷ ns) (suc p) h lt =
-    let m = get_or ns p [] in
-    let inner = own-place ns p h.1 (omega (arith, lt)) in
-    let same : 1 + position_or_len (same_text m) ns ≡ suc p = omega (arith, inner) in
-    ap (λ b. cond (not b) (1 + position_or_len (same_text m) ns) 0) (flipped m n (apart-at n ns p h.0 (omega (arith, lt)))) ∙ same
-
-own-number : (ns : List Name) (p : ℕ) → IsDistinct same_text ns → p < length ns → number_of ns (get_or ns p []) ≡ Some p
-own-number ns p h lt =
-    let place = position_or_len (same_text (get_or ns p [])) ns in
-    let is = own-place ns p h lt in
-    ap (λ b. cond b (Some place) None) (lt-ltb place (length ns) (subst (λ k. k < length ns) (sym is) lt)) ∙ ap Some is
 
 -- ---- values
 

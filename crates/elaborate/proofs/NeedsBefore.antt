@@ -10,7 +10,7 @@ use Rattle.std.proofs.lemmas.List.Elements.{All-contains, All-contains_itself, A
 use Rattle.std.proofs.lemmas.Map.Views.{All-insert_key}
 use Rattle.indexmap.specs.IndexSet.{insert_key}
 use Rattle.common_laws.specs.Graphs.{Needs}
-use Rattle.common_laws.specs.Lists.{any-at, contains-append, contains-filter, contains-head, contains-left, contains-map, contains-none, contains-tail, map-contains}
+use Rattle.common_laws.specs.Lists.{any-at, contains-append, contains-filter, contains-head, contains-left, contains-map, contains-none, contains-tail, map-contains, push_split}
 use Rattle.common_laws.specs.Passing.{none-back}
 use Rattle.common_laws.specs.Small.{same-is}
 use Rattle.plan_types.specs.declared.dependency.DepKind.{DepKind}
@@ -22,7 +22,6 @@ use Rattle.plan_nodes.specs.declared.node.PlanNode.{PlanNode}
 use Rattle.plan_nodes.specs.Line.{all_needs, in_order, node_line}
 use Rattle.plan_nodes.specs.Once.{each_line_once, same_line}
 use Rattle.build_order.specs.Order.{IsBuildOrder}
-use Rattle.build_order.proofs.OrderInvariant.{push_split}
 use Rattle.plan_components.specs.declared.node.Need.{Need}
 use Rattle.plan_components.specs.declared.node.Node.{Node}
 use Rattle.plan_components.specs.Chosen.{Selection, body_at}

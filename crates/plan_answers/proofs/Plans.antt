@@ -7,7 +7,7 @@ use Rattle.file_answers.proofs.SortedInsertion.{all_move, all_sorted}
 use Rattle.plan_components.specs.declared.reached.Reached.{Reached}
 use Rattle.plan_components.specs.Chosen.{Selection}
 use Rattle.plan_components.specs.Plan.{AreReached}
-use Rattle.order_answers.proofs.SomeOrder.{some_order}
+use Rattle.build_order.proofs.SomeOrder.{some_order}
 use Rattle.node_lines.specs.Along.{lines_along}
 use Rattle.node_lines.specs.Lines.{AreLines}
 use Rattle.node_lines.specs.Numbers.{graph_of as places_of}

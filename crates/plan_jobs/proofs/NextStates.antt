@@ -1,11 +1,12 @@
 -- Shared: the states after one more event.
-use Rattle.std.proofs.Common.{◌≡◌, ◌<◌, ◌||◌, ◌⊎◌, inl, inr, ⊎_elim, ℕ, Bool, true, false, List, [], ◌∷◌, ◌++◌, Ok, Err, length, get_or, set, refl, sym, subst, ap, ◌∙◌, arith, length-append}
+use Rattle.std.proofs.Common.{◌≡◌, ◌<◌, ◌||◌, ◌⊎◌, ⊎_elim, ℕ, Bool, true, false, List, [], ◌∷◌, ◌++◌, Ok, Err, length, set, refl, sym, subst, ap, ◌∙◌, arith, length-append}
 use Rattle.std.specs.Prelude.{⊤, count_by}
 use Rattle.std.specs.List.{list_any}
 use Rattle.std.proofs.lemmas.Bool.{cases_eq}
 use Rattle.std.proofs.lemmas.List.{length-set, ext_get_or}
 use Rattle.std.proofs.lemmas.List.FromFn.{length-map-range_with_len, get_or-map-range_with_len}
 use Rattle.std.proofs.lemmas.List.Folds.{list_any-append}
+use Rattle.common_laws.specs.Lists.{push_split}
 use Rattle.plan_nodes.specs.declared.node.PlanNode.{PlanNode}
 use Rattle.plan_jobs.specs.declared.job.JobFault.{JobFault}
 use Rattle.plan_jobs.specs.declared.job.JobState.{JobState}
@@ -115,17 +116,6 @@ one_changes nodes events event place state lt now same =
     (λ e. subst (λ k. state_after nodes more_events k ≡ state_at (set (states_after nodes events) place state) k) (sym e) (now ∙ sym (state_here (states_after nodes events) place state in_old)))
     (λ d. same i d ∙ sym (state_in nodes events i in_nodes) ∙ sym (state_there (states_after nodes events) place i state d))
     (cases_eq i place))
-
--- a split of a list with one more item at its end
-push_split : {X : Type 0} (front order rest : List X) (u node : X) → order ++ node ∷ [] ≡ front ++ u ∷ rest
-    → ((front ≡ order) × (u ≡ node)) ⊎ ((less : List X) × (order ≡ front ++ u ∷ less))
-push_split [] [] rest u node e = inl (refl, sym (ap (λ l. get_or l 0 node) e))
-push_split [] (x ∷ xs) rest u node e = inr (xs, ap (λ k. k ∷ xs) (ap (λ l. get_or l 0 x) e))
-push_split (f ∷ fs) [] rest u node e = absurd (omega (arith, ap length e, length-append fs (u ∷ rest)))
-push_split (f ∷ fs) (x ∷ xs) rest u node e =
-    let h : x ≡ f = ap (λ l. get_or l 0 x) e in
-    ⊎_elim (λ b. inl (ap (λ l. f ∷ l) b.0 ∙ ap (λ k. k ∷ xs) (sym h), b.1)) (λ b. inr (b.0, ap (λ k. k ∷ xs) h ∙ ap (λ l. f ∷ l) b.1))
-    (push_split fs xs rest u node (ap (λ (l : List _). elim l [ [] ↦ [] | y ∷ ys ↦ ys ]) e))
 
 pub history_begins : (nodes : List PlanNode) (slots : ℕ) → IsHistory nodes slots []
 history_begins nodes slots front rest event e = absurd (omega (arith, ap length e, length-append front (event ∷ rest)))

@@ -1,3 +1,4 @@
 pub mod GoalOrder
 pub mod NameNumbers
 pub mod Ordered
+pub mod OwnNumbers

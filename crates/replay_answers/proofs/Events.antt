@@ -20,7 +20,7 @@ use Rattle.replay_text.specs.Reading.{AreEvents, AreRead, IsGood, IsLineOf, NoEv
 use Rattle.replay_text.specs.declared.event.JobEvent.{JobEvent}
 use Rattle.replay_text.specs.declared.event.JobEvent.TheVariants.{Start, Completed, Failed}
 use Rattle.event_file.specs.Events.{AreEventsAt, AreEventsIn, events_or_refusal}
-use Rattle.replay_answers.proofs.Decidability.{Dec}
+use Rattle.common_laws.specs.Decidability.{Dec}
 
 -- ---- the number of a node
 

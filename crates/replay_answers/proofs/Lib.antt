@@ -1,4 +1,4 @@
-pub mod Decidability
+pub mod StateTests
 pub mod Events
 pub mod Replies
 pub mod Standings

@@ -9,7 +9,8 @@ use Rattle.plan_jobs.specs.Events.{Event, IsReportReply, IsReady, IsRight, IsSta
 use Rattle.replay_text.specs.Replay.{asked}
 use Rattle.replay_text.specs.declared.event.JobEvent.{JobEvent}
 use Rattle.replay_text.specs.declared.event.JobEvent.TheVariants as event
-use Rattle.replay_answers.proofs.Decidability.{Dec, LeastBelow, SomeBelow, both, completed, is_true, least_below, less, never, runs, same, some_below, waits}
+use Rattle.common_laws.specs.Decidability.{Dec, LeastBelow, SomeBelow, both, is_true, least_below, less, never, same, some_below}
+use Rattle.replay_answers.proofs.StateTests.{completed, runs, waits}
 
 module _ (nodes : List PlanNode) (events : List Event) where
   -- a need that isn't completed

@@ -5,7 +5,8 @@ use Rattle.plan_nodes.specs.declared.node.PlanNode.{PlanNode}
 use Rattle.plan_jobs.specs.declared.job.JobState.TheVariants.{Waiting, Running, Completed, Failed}
 use Rattle.plan_jobs.specs.Events.{Event, IsHeld, NeedsNode, node_at, state_after, lists_id}
 use Rattle.replay_text.specs.Replay.{IsCount, none, yes, no}
-use Rattle.replay_answers.proofs.Decidability.{Dec, SomeBelow, both, completed, failed, is_true, never, runs, some_below, waits}
+use Rattle.common_laws.specs.Decidability.{Dec, SomeBelow, both, is_true, never, some_below}
+use Rattle.replay_answers.proofs.StateTests.{completed, failed, runs, waits}
 
 module _ (nodes : List PlanNode) (events : List Event) where
   -- a failed node is needed, directly or through others

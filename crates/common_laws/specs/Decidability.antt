@@ -1,9 +1,7 @@
--- Shared: decidability of properties of numbers and states, and of all numbers below a bound.
+-- Decidability of properties of numbers, and of all numbers below a bound; the least number with a property.
 use Rattle.std.proofs.Common.{◌≡◌, ◌⊎◌, inl, inr, ◌<◌, ◌≤◌, ℕ, zero, suc, Bool, true, false, refl, sym, ◌∙◌, subst, arith}
 use Rattle.std.specs.Prelude.{◌==◌, nat_lt}
 use Rattle.std.proofs.lemmas.Bool.{eqb-false, eqb-true, eq-eqb, false≢true, ltb-false, ltb-true}
-use Rattle.plan_jobs.specs.declared.job.JobState.{JobState}
-use Rattle.plan_jobs.specs.declared.job.JobState.TheVariants.{Waiting, Running, Completed, Failed}
 
 abbrev pub Dec : Type 0 → Type 0
 Dec P = P ⊎ (P → ⊥)
@@ -34,30 +32,6 @@ both (inr denied) q = inr (λ h. denied h.0)
 pub never : {P : Type 0} → Dec P → Dec (P → ⊥)
 never (inl p) = inr (λ denied. denied p)
 never (inr denied) = inl denied
-
-pub waits : (s : JobState) → Dec (s ≡ Waiting)
-waits Waiting = inl refl
-waits Running = inr (λ e. cc e)
-waits Completed = inr (λ e. cc e)
-waits Failed = inr (λ e. cc e)
-
-pub runs : (s : JobState) → Dec (s ≡ Running)
-runs Waiting = inr (λ e. cc e)
-runs Running = inl refl
-runs Completed = inr (λ e. cc e)
-runs Failed = inr (λ e. cc e)
-
-pub completed : (s : JobState) → Dec (s ≡ Completed)
-completed Waiting = inr (λ e. cc e)
-completed Running = inr (λ e. cc e)
-completed Completed = inl refl
-completed Failed = inr (λ e. cc e)
-
-pub failed : (s : JobState) → Dec (s ≡ Failed)
-failed Waiting = inr (λ e. cc e)
-failed Running = inr (λ e. cc e)
-failed Completed = inr (λ e. cc e)
-failed Failed = inl refl
 
 -- ---- all below a number
 

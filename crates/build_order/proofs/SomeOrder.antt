@@ -6,7 +6,7 @@ use Rattle.std.proofs.lemmas.Bool.{eqb-false, eqb-true, eq-eqb, or_left, or_righ
 use Rattle.std.proofs.lemmas.List.Folds.{list_any-append}
 use Rattle.common_laws.specs.Lists.{all-at, all-from, any-at, any-from}
 use Rattle.build_order.specs.Order.{IsBuildOrder, IsLeastReady, IsReady}
-use Rattle.replay_answers.proofs.Decidability.{Dec, LeastBelow, is_true, least_below, less}
+use Rattle.common_laws.specs.Decidability.{Dec, LeastBelow, is_true, least_below, less}
 
 abbrev has : List ℕ → ℕ → Bool
 has placed u = list_any (λ v. v == u) placed
