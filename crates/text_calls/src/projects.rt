@@ -1,14 +1,13 @@
-// Calls that no run makes: of the reader of projects, and of the maker of identifiers.
+// A call that no run makes: of the reader of projects.
 ghost use Rattle.std.specs.Prelude.{IfOk};
 ghost use Rattle.std.specs.List.{AllByRecursion};
 ghost use Rattle.project_file.specs.Read.{IsWithin};
 
 use crate::conditions::environment;
-use plan_types::{FlagDecl, FlagSet, List, NoMemory, Text};
+use plan_types::{List, NoMemory, Text};
 use project_file::{ProjectText, read_project};
 use std::alloc::Global;
 use std::test::Fail;
-use store_id::names_each_once;
 
 fn texts(alloc: Global, lines: &str) -> Result<List<ProjectText>, NoMemory>
     ensures { IfOk result (AllByRecursion IsWithin) }
@@ -32,25 +31,5 @@ fn files_of_a_project(rt: HostRuntime) -> Result<(), Fail> {
         Ok(project) => assert!(rt; project.tests && project.entries.len() == 1),
         Err(_) => assert!(rt; false),
     }
-    Ok(())
-}
-
-#[test]
-fn flags_that_are_named_once(rt: HostRuntime) -> Result<(), Fail> {
-    let alloc = rt.alloc();
-    let mut declared = List::new(alloc);
-    declared.push(FlagDecl {
-        line: 1,
-        name: Text::from_str(alloc, "f")?,
-        default: false,
-        manual: false,
-    })?;
-    let mut flags = List::new(alloc);
-    assert!(rt; !names_each_once(&declared, &flags));
-    flags.push(FlagSet {
-        name: Text::from_str(alloc, "f")?,
-        on: true,
-    })?;
-    assert!(rt; names_each_once(&declared, &flags));
     Ok(())
 }

@@ -2,7 +2,7 @@ use Rattle.std.proofs.Common.{[], sym, subst}
 use Rattle.std.specs.List.{IsDistinct}
 use Rattle.std.specs.List.Sorted.{IsStrictlySortedBy}
 use Rattle.qualified_goals.specs.Names.{AreInGoalOrder}
-use Rattle.call_tables.proofs.answers.index.Goals as goal
+use Rattle.plan_calls.proofs.answers.index.Goals as goal
 
 none : AreInGoalOrder []
 unfolding IsStrictlySortedBy IsDistinct
