@@ -11,7 +11,7 @@ use choice_problem::{Choice, ConflictSet, Counts};
 use command_line::Options;
 use conflict_shrink::Shrunk;
 use elaborate::elaborate;
-use plan_answers::some_plan;
+use every_plan::some_plan;
 use plan_json::{
     json_of_conflict, json_of_giving_up, json_of_not_shrunk, json_of_plan, json_of_shrunk,
 };

@@ -7,3 +7,4 @@ pub mod Listed
 pub mod Literal
 pub mod LookedUp
 pub mod Seen
+pub mod Finds

@@ -7,18 +7,36 @@ ghost use Rattle.plan_types.specs.Bytes.{begins_with};
 ghost use Rattle.project_paths.specs.Wildcards.{fits, matches};
 ghost use Rattle.project_paths.specs.Pieces.{behind, behind_front, cut, ends_so, match_behind, match_pieces};
 
+use memchr::memmem::Finder;
 use std::alloc::{AllocError, Global};
 
-/// The pieces of a pattern between its stars.
-pub(crate) fn cut(alloc: Global, pattern: &str) -> Result<Vec<&str>, AllocError>
+/// The pieces of a pattern between its stars, each ready to be searched for.
+pub(crate) fn cut(alloc: Global, pattern: &str) -> Result<Vec<Finder<'_>>, AllocError>
+    ensures { IfOk result (λ pieces. pieces.items ≡ cut pattern.now) }
+{
+    let pieces = pieces(alloc, pattern)?;
+    finders(alloc, pieces.as_slice())
+}
+
+fn pieces(alloc: Global, pattern: &str) -> Result<Vec<&str>, AllocError>
     ensures { IfOk result (λ pieces. map (λ piece. piece.now) pieces.items ≡ cut pattern.now) }
 {
     pattern.split('*').collect(alloc)
 }
 
+fn finders<'a>(alloc: Global, pieces: &[&'a str]) -> Result<Vec<Finder<'a>>, AllocError>
+    ensures { IfOk result (λ finders. finders.items ≡ map (λ piece. piece.now) pieces.now) }
+{
+    let mut finders = Vec::new(alloc);
+    for piece in pieces {
+        finders.push(Finder::new(piece.as_bytes()))?;
+    }
+    Ok(finders)
+}
+
 /// Whether a pattern with these pieces matches a name. A name that begins with `.` needs a pattern that does.
-pub(crate) fn matches(pattern: &[u8], pieces: &[&str], name: &[u8]) -> bool
-    requires { map (λ piece. piece.now) pieces.now ≡ cut pattern.now }
+pub(crate) fn matches(pattern: &[u8], pieces: &[Finder<'_>], name: &[u8]) -> bool
+    requires { pieces.now ≡ cut pattern.now }
     ensures { result ≡ matches pattern.now name.now }
 {
     if begins_with_point(name) && !begins_with_point(pattern) {
@@ -36,19 +54,19 @@ fn begins_with_point(text: &[u8]) -> bool
     }
 }
 
-fn fits(pieces: &[&str], name: &[u8]) -> bool
-    ensures { (pattern : List ℕ) → map (λ piece. piece.now) pieces.now ≡ cut pattern → result ≡ fits pattern name.now }
+fn fits(pieces: &[Finder<'_>], name: &[u8]) -> bool
+    ensures { (pattern : List ℕ) → pieces.now ≡ cut pattern → result ≡ fits pattern name.now }
 {
     match_pieces(pieces, name)
 }
 
-fn match_pieces(pieces: &[&str], name: &[u8]) -> bool
-    ensures { result ≡ match_pieces (map (λ piece. piece.now) pieces.now) name.now }
+fn match_pieces(pieces: &[Finder<'_>], name: &[u8]) -> bool
+    ensures { result ≡ match_pieces pieces.now name.now }
 {
     match pieces {
         [] => false,
-        [only] => only.as_bytes() == name,
-        [first, others @ ..] => match behind_front(first.as_bytes(), name) {
+        [only] => only.needle() == name,
+        [first, others @ ..] => match behind_front(first.needle(), name) {
             None => false,
             Some(rest) => match_behind(others, rest),
         },
@@ -56,16 +74,16 @@ fn match_pieces(pieces: &[&str], name: &[u8]) -> bool
 }
 
 // Whether pieces match, each of them behind a star.
-fn match_behind(pieces: &[&str], name: &[u8]) -> bool
-    ensures { result ≡ match_behind (map (λ piece. piece.now) pieces.now) name.now }
+fn match_behind(pieces: &[Finder<'_>], name: &[u8]) -> bool
+    ensures { result ≡ match_behind pieces.now name.now }
 {
     let mut left = pieces;
     let mut rest = name;
     while let [piece, others @ ..] = left {
         if others.is_empty() {
-            return ends_so(piece.as_bytes(), rest);
+            return ends_so(piece.needle(), rest);
         }
-        match behind(piece.as_bytes(), rest) {
+        match behind(piece, rest) {
             None => return false,
             Some(more) => rest = more,
         }
@@ -81,17 +99,11 @@ fn ends_so(piece: &[u8], text: &[u8]) -> bool
 }
 
 // The rest of a text after the first occurrence of a piece.
-fn behind<'a>(piece: &[u8], text: &'a [u8]) -> Option<&'a [u8]>
+fn behind<'a>(piece: &Finder<'_>, text: &'a [u8]) -> Option<&'a [u8]>
     ensures { option_copied result ≡ behind piece.now text.now }
 {
-    let mut rest = text;
-    while let [_, more @ ..] = rest {
-        if let Some(found) = behind_front(piece, rest) {
-            return Some(found);
-        }
-        rest = more;
-    }
-    behind_front(piece, rest)
+    let place = piece.find(text)?;
+    Some(&text[place + piece.needle().len()..])
 }
 
 fn behind_front<'a>(piece: &[u8], text: &'a [u8]) -> Option<&'a [u8]>

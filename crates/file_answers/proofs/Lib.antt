@@ -1,9 +1,0 @@
-pub mod Readings
-pub mod Trees
-pub mod RecordAnswers
-pub mod Sections
-pub mod SortedInsertion
-pub mod CycleAnswers
-pub mod Descriptions
-pub mod SourceAnswers
-pub mod ProjectAnswers

@@ -1,4 +1,0 @@
-pub mod Pieces
-pub mod Nodes
-pub mod Reached
-pub mod Plans

@@ -1,5 +1,0 @@
-use Rattle.search_answers.proofs.Findings as proof
-use Rattle.search_answers.proofs.laws.first_or_none.Goals as goal
-
-pub returns : goal.returns
-returns c = proof.first_or_none c.what_is_found_is_right.ensures
