@@ -29,7 +29,7 @@ use Rattle.solver_index.specs.Places.{entry_at, rising}
 use Rattle.solver_index.proofs.ListLaws.{rising-below}
 use Rattle.cabal_problem.specs.Values.{package_var}
 use Rattle.frozen_choices.specs.Frozen.{all_flags, are_alike, asked, asked_apart, asked_everywhere, asked_in_setup, asked_of_local, asked_under, asked_where, automatic_flags, entry_of, flag_beside, flags_asked, frozen, frozen_as, frozen_package, instance_asked, instances_in, is_automatic, is_setup_of, is_uniform, kind_of, setups_in}
-use Rattle.frozen_choices.proofs.OwnNumbers.{self}
+use Rattle.qualified_goals.proofs.OwnNumbers.{self}
 
 -- ---- what a constraint says
 
