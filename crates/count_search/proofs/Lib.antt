@@ -1,3 +1,4 @@
+pub mod Found
 pub mod Orders
 pub mod Picks
 pub mod Scores

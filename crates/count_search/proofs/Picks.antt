@@ -17,9 +17,11 @@ use Rattle.choice_problem.specs.Guides.{most-met-is-guide}
 use Rattle.choice_problem.proofs.TrailLemmas.{open-unchosen, targets_open}
 use Rattle.choice_problem.proofs.VariableSets.{has-contains, rising-tail, rising-below, rising-set_of}
 use Rattle.count_search.specs.declared.ranks.Rank.{Rank}
+use Rattle.count_search.specs.declared.records.Met.{Met}
 use Rattle.count_search.specs.Ranks.{rank_cmp, has_rank, rank_of, AreScored}
 use Rattle.count_search.proofs.Orders.{either, rank-less, first-rank, none-first}
-use Rattle.count_search.proofs.Scores.{member-ranked, ranked-member, one-or-other}
+use Rattle.count_search.proofs.Found.{one-or-other}
+use Rattle.count_search.proofs.Scores.{member-ranked, ranked-member}
 
 -- a variable has a lesser score than another one, or the same score and isn't before it
 abbrev pub IsAtMost : List (List Var) → Var → Var → Type 0
@@ -64,7 +66,7 @@ most-none met (w ∷ vars) none =
           ap (λ b. Some (cond b x w)) (not-less (score met w) (score met x) (omega (arith, zero)))
     ] refl
 
-module _ (p : Problem) (met : List (List Var)) (trail : List Choice) (table : List (Var × ℕ)) (ranks : List Rank) (are : AreScored table ranks (score met) trail) where
+module _ (p : Problem) (met : List (List Var)) (trail : List Choice) (table : List (Var × Met)) (ranks : List Rank) (are : AreScored table ranks (score met) trail) where
   zero-of : (u : Var) → nat_lt 0 (score met u) ≡ false → score met u ≡ 0
   zero-of u e = omega (arith, ltb-false 0 (score met u) e)
 

@@ -1,3 +1,4 @@
+pub mod Records
 pub mod Ranks
 pub mod Meaning
 pub mod Examples

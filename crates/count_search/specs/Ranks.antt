@@ -1,6 +1,6 @@
 -- Ranks of variables: ordered by falling score, equal ones by variable.
-use Rattle.std.specs.Prelude.{◌≡◌, ℕ, ◌+◌, ◌-◌, min, nat_lt, nat_eq, Bool, cond, ◌&&◌, ◌||◌, List, [], ◌∷◌, None, is_none}
-use Rattle.std.specs.Option.{unwrap_or}
+use Rattle.std.specs.Prelude.{◌≡◌, ℕ, ◌+◌, ◌-◌, min, nat_lt, nat_eq, Bool, cond, ◌&&◌, ◌||◌, List, [], ◌∷◌, Some, None, is_none, is_some}
+use Rattle.std.specs.Option.{option_map, unwrap_or}
 use Rattle.std.specs.List.{list_any}
 use Rattle.std.specs.Ordering.{nat_cmp, ordering_then, is_eq}
 use Rattle.std.specs.declared.cmp.Ordering.{Ordering}
@@ -8,9 +8,10 @@ use Rattle.qualified_goals.specs.declared.variable.Var.{Var}
 use Rattle.qualified_goals.specs.Variable.{var_cmp, same_var}
 use Rattle.choice_problem.specs.declared.problem.Choice.{Choice}
 use Rattle.choice_problem.specs.Trail.{value_in}
-use Rattle.choice_problem.specs.Table.{entry}
 use Rattle.choice_problem.specs.Guide.{cap}
 use Rattle.count_search.specs.declared.ranks.Rank.{Rank}
+use Rattle.count_search.specs.declared.records.Met.{Met}
+use Rattle.count_search.specs.Records.{record_in}
 
 -- the order of ranks
 abbrev pub rank_cmp : Rank → Rank → Ordering
@@ -32,21 +33,27 @@ rank_of score v = record { rest = cap - score; var = v }
 abbrev pub is_ranked : (Var → ℕ) → List Choice → Rank → Bool
 is_ranked scores trail r = nat_lt 0 (scores r.var) && (nat_eq r.rest (cap - scores r.var) && is_none (value_in trail r.var))
 
--- the score of a variable in a table, 0 where the table lacks it
-abbrev pub met_by : List (Var × ℕ) → Var → ℕ
-met_by table v = unwrap_or (entry table v) 0
+-- the score of a variable by the records, 0 without a record
+abbrev pub met_by : List (Var × Met) → Var → ℕ
+met_by records v = unwrap_or (option_map (λ met. met.sets) (record_in records v)) 0
 
--- the table has the scores, and the ranks are those of scored variables that aren't chosen
-pub record AreScored (table : List (Var × ℕ)) (ranks : List Rank) (scores : Var → ℕ) (trail : List Choice) : Type 0 where
-  pub counted : (v : Var) → met_by table v ≡ scores v
+-- the records say which variables are chosen
+abbrev pub AreNoted : List (Var × Met) → List Choice → Type 0
+AreNoted records trail = (v : Var) (met : Met) → record_in records v ≡ Some met → met.chosen ≡ is_some (value_in trail v)
+
+-- the records have the scores, and the ranks are those of scored variables that aren't chosen
+pub record AreScored (records : List (Var × Met)) (ranks : List Rank) (scores : Var → ℕ) (trail : List Choice) : Type 0 where
+  pub counted : (v : Var) → met_by records v ≡ scores v
+  pub noted : AreNoted records trail
   pub ranked : (r : Rank) → has_rank ranks r ≡ is_ranked scores trail r
 
--- between old scores and the next: the table has the old ones, the ranks are those of both, and the table has an
--- entry for each variable whose score is to rise
-pub record AreBetween (table : List (Var × ℕ)) (ranks : List Rank) (scores next : Var → ℕ) (trail : List Choice) : Type 0 where
-  pub counted : (v : Var) → met_by table v ≡ scores v
+-- between old scores and the next: the records have the old ones, the ranks are those of both, and each variable whose
+-- score is to rise has a record
+pub record AreBetween (records : List (Var × Met)) (ranks : List Rank) (scores next : Var → ℕ) (trail : List Choice) : Type 0 where
+  pub counted : (v : Var) → met_by records v ≡ scores v
+  pub noted : AreNoted records trail
   pub ranked : (r : Rank) → has_rank ranks r ≡ is_ranked scores trail r || is_ranked next trail r
-  pub ready : (v : Var) → entry table v ≡ None → next v ≡ scores v
+  pub ready : (v : Var) → record_in records v ≡ None → next v ≡ scores v
 
 -- the scores with one more for a variable, up to cap
 abbrev pub raised : Var → (Var → ℕ) → Var → ℕ

@@ -1,20 +1,21 @@
 // Scores of variables by conflict sets, and the open variable with the greatest one.
-ghost use Rattle.std.specs.Prelude.{◌≡◌, ◌≤◌, ℕ, List, [], IsTrue, OnOk, OnErr, is_some, find, length, map, take};
+ghost use Rattle.std.specs.Prelude.{◌≡◌, ◌≤◌, ℕ, List, [], IsTrue, OnOk, OnErr, find, length, map, take};
 ghost use Rattle.std.specs.List.Sorted.{IsStrictlySortedBy};
 ghost use Rattle.qualified_goals.specs.declared.variable.Var.{Var};
 ghost use Rattle.choice_problem.specs.declared.problem.Choice.{Choice};
 ghost use Rattle.choice_problem.specs.Problem.{Problem, Lawful};
 ghost use Rattle.choice_problem.specs.Active.{is_open};
 ghost use Rattle.choice_problem.specs.ConflictSet.{is_rising};
-ghost use Rattle.choice_problem.specs.Trail.{value_in};
 ghost use Rattle.choice_problem.specs.Guide as spec;
 ghost use Rattle.choice_problem.specs.Guides.{most-met-is-guide};
 ghost use Rattle.validation.specs.View.{Represents};
-ghost use Rattle.count_search.specs.Ranks.{rank_cmp, AreBetween, AreScored, met_by, raised, raised_all};
+ghost use Rattle.count_search.specs.Ranks.{rank_cmp, AreBetween, AreScored, raised, raised_all};
 
 use crate::ranks::{Rank, put, rank_of, take_out};
+use crate::records::{Records, count_one, mark, record_for, record_of};
 use backjump::Guide;
-use choice_problem::{ConflictSet, Table, Trail, Var};
+use choice_problem::{ConflictSet, Trail, Var};
+use indexmap::IndexMap;
 use plan_types::NoMemory;
 use std::alloc::Global;
 use std::collections::BTreeSet;
@@ -22,8 +23,8 @@ use validation::State;
 
 /// Picks the open variable with the greatest score, of equals the least. A score counts the conflict sets so far.
 pub struct Counting {
-    // The number of sets with each variable. A variable that isn't there has 0.
-    scores: Table,
+    // The score of each variable, and whether it is chosen. A variable that isn't there was in no set.
+    records: Records,
     // The ranks of the variables that were in a set and aren't chosen.
     ranks: BTreeSet<Rank>,
 }
@@ -32,7 +33,7 @@ pub struct Counting {
 impl Drop for Counting {
     fn drop(self) {
         let Counting {
-            scores: _scores,
+            records: _records,
             ranks: _ranks,
         } = self;
     }
@@ -41,68 +42,66 @@ impl Drop for Counting {
 impl Counting {
     /// A guide without conflict sets.
     pub fn new(alloc: Global) -> Counting
-        ensures { AreScored result.scores result.ranks.keys (spec.score []) [] }
+        ensures { AreScored result.records.entries result.ranks.keys (spec.score []) [] }
     {
         Counting {
-            scores: Table::new(alloc),
+            records: IndexMap::new(alloc),
             ranks: BTreeSet::new(alloc),
         }
     }
-
-    // The number of sets with a variable.
-    fn score(&self, v: Var) -> u64
-        ensures { result ≡ met_by self.now.scores v }
-    {
-        self.scores.get(v).unwrap_or(0)
-    }
 }
 
-// A set is added in two steps. The first allocates all memory: each of its variables gets an entry, and its next rank
-// besides its old one. The second raises the scores and removes the old ranks.
+// A set is added in two steps. The first allocates all memory: each of its variables gets a record, and its next rank
+// besides its old one, unless it is chosen. The second raises the scores and removes the old ranks.
 impl Counting {
     // The first step for one variable.
-    fn prepare(&mut self, v: Var, chosen: bool) -> Result<(), NoMemory>
-        ensures ok { OnOk result ((scores next : Var → ℕ) (trail : List Choice) → is_some (value_in trail v) ≡ chosen
-            → AreBetween self.old.scores self.old.ranks.keys scores next trail → next v ≡ scores v
-            → AreBetween self.new.scores self.new.ranks.keys scores (raised v next) trail) }
-        ensures err { OnErr result ((scores next : Var → ℕ) (trail : List Choice)
-            → AreBetween self.old.scores self.old.ranks.keys scores next trail
-            → AreBetween self.new.scores self.new.ranks.keys scores next trail) }
+    fn prepare(&mut self, v: Var, trail: &Trail) -> Result<(), NoMemory>
+        ensures ok { OnOk result ((scores next : Var → ℕ) → next v ≡ scores v
+            → AreBetween self.old.records.entries self.old.ranks.keys scores next trail.now
+            → AreBetween self.new.records.entries self.new.ranks.keys scores (raised v next) trail.now) }
+        ensures err { OnErr result ((scores next : Var → ℕ)
+            → AreBetween self.old.records.entries self.old.ranks.keys scores next trail.now
+            → AreBetween self.new.records.entries self.new.ranks.keys scores next trail.now) }
     {
-        let score = self.score(v);
-        self.scores.set(v, score)?;
-        if chosen {
+        let met = record_for(&mut self.records, v, trail)?;
+        if met.chosen {
             return Ok(());
         }
-        put(&mut self.ranks, rank_of(score.saturating_add(1), v))
+        put(&mut self.ranks, rank_of(met.sets.saturating_add(1), v))
     }
 
     // Undoes the first step for one variable.
     fn withdraw(&mut self, v: Var)
         ensures { (scores next : Var → ℕ) (trail : List Choice) → next v ≡ scores v
-            → AreBetween self.old.scores self.old.ranks.keys scores (raised v next) trail
-            → AreBetween self.new.scores self.new.ranks.keys scores next trail }
+            → AreBetween self.old.records.entries self.old.ranks.keys scores (raised v next) trail
+            → AreBetween self.new.records.entries self.new.ranks.keys scores next trail }
     {
-        let score = self.score(v);
-        if score == u64::MAX {
+        let Some(met) = record_of(&self.records, v) else {
+            return;
+        };
+        if met.sets == u64::MAX {
             return;
         }
-        take_out(&mut self.ranks, rank_of(score + 1, v));
+        take_out(&mut self.ranks, rank_of(met.sets + 1, v));
     }
 
     // The second step for one variable.
     fn raise(&mut self, v: Var)
         ensures { (scores next : Var → ℕ) (trail : List Choice) → next v ≡ raised v scores v
-            → AreBetween self.old.scores self.old.ranks.keys scores next trail
-            → AreBetween self.new.scores self.new.ranks.keys (raised v scores) next trail }
+            → AreBetween self.old.records.entries self.old.ranks.keys scores next trail
+            → AreBetween self.new.records.entries self.new.ranks.keys (raised v scores) next trail }
     {
-        let score = self.score(v);
-        if score == u64::MAX {
+        let Some(met) = count_one(&mut self.records, v) else {
+            return;
+        };
+        // A chosen variable has no rank.
+        if met.chosen {
             return;
         }
-        // The entry is there, so this allocates no memory.
-        let _ = self.scores.set(v, score + 1);
-        take_out(&mut self.ranks, rank_of(score, v));
+        if met.sets == u64::MAX {
+            return;
+        }
+        take_out(&mut self.ranks, rank_of(met.sets, v));
     }
 }
 
@@ -110,14 +109,14 @@ impl Counting {
     // The first step for the variables of a set. It is undone when out of memory.
     fn prepare_all(&mut self, vars: &[Var], trail: &Trail) -> Result<(), NoMemory>
         requires { IsTrue (is_rising vars.now) }
-        ensures ok { OnOk result ((scores : Var → ℕ) → AreScored self.old.scores self.old.ranks.keys scores trail.now
-            → AreBetween self.new.scores self.new.ranks.keys scores (raised_all vars.now scores) trail.now) }
-        ensures err { OnErr result ((scores : Var → ℕ) → AreScored self.old.scores self.old.ranks.keys scores trail.now
-            → AreScored self.new.scores self.new.ranks.keys scores trail.now) }
+        ensures ok { OnOk result ((scores : Var → ℕ) → AreScored self.old.records.entries self.old.ranks.keys scores trail.now
+            → AreBetween self.new.records.entries self.new.ranks.keys scores (raised_all vars.now scores) trail.now) }
+        ensures err { OnErr result ((scores : Var → ℕ) → AreScored self.old.records.entries self.old.ranks.keys scores trail.now
+            → AreScored self.new.records.entries self.new.ranks.keys scores trail.now) }
     {
         for place in 0..vars.len() {
             let v = vars[place];
-            if self.prepare(v, trail.has(v)).is_err() {
+            if self.prepare(v, trail).is_err() {
                 self.withdraw_first(vars, place);
                 return Err(NoMemory);
             }
@@ -130,8 +129,8 @@ impl Counting {
         requires rising { IsTrue (is_rising vars.now) }
         requires within { count ≤ length vars.now }
         ensures { (scores : Var → ℕ) (trail : List Choice)
-            → AreBetween self.old.scores self.old.ranks.keys scores (raised_all (take count vars.now) scores) trail
-            → AreScored self.new.scores self.new.ranks.keys scores trail }
+            → AreBetween self.old.records.entries self.old.ranks.keys scores (raised_all (take count vars.now) scores) trail
+            → AreScored self.new.records.entries self.new.ranks.keys scores trail }
     {
         let mut left = count;
         while left > 0 {
@@ -144,8 +143,8 @@ impl Counting {
     fn raise_all(&mut self, vars: &[Var])
         requires { IsTrue (is_rising vars.now) }
         ensures { (scores : Var → ℕ) (trail : List Choice)
-            → AreBetween self.old.scores self.old.ranks.keys scores (raised_all vars.now scores) trail
-            → AreScored self.new.scores self.new.ranks.keys (raised_all vars.now scores) trail }
+            → AreBetween self.old.records.entries self.old.ranks.keys scores (raised_all vars.now scores) trail
+            → AreScored self.new.records.entries self.new.ranks.keys (raised_all vars.now scores) trail }
     {
         for place in 0..vars.len() {
             self.raise(vars[place]);
@@ -170,7 +169,7 @@ fn first_open(ranks: &BTreeSet<Rank>, state: &State) -> Option<Var>
 impl Guide for Counting {
     ghost picks = { spec.most_met };
 
-    ghost recalls = { λ guide met trail. AreScored guide.scores guide.ranks.keys (spec.score met) trail };
+    ghost recalls = { λ guide met trail. AreScored guide.records.entries guide.ranks.keys (spec.score met) trail };
 
     fn pick(&self, state: &State) -> Option<Var> {
         match first_open(&self.ranks, state) {
@@ -187,16 +186,23 @@ impl Guide for Counting {
     }
 
     fn chosen(&mut self, v: Var) {
-        let rank = rank_of(self.score(v), v);
-        take_out(&mut self.ranks, rank);
+        let Some(met) = mark(&mut self.records, v, true) else {
+            return;
+        };
+        take_out(&mut self.ranks, rank_of(met.sets, v));
     }
 
     fn taken_back(&mut self, v: Var) -> Result<(), NoMemory> {
-        let score = self.score(v);
-        if score == 0 {
+        let Some(met) = record_of(&self.records, v) else {
+            return Ok(());
+        };
+        if met.sets == 0 {
+            let _ = mark(&mut self.records, v, false);
             return Ok(());
         }
-        put(&mut self.ranks, rank_of(score, v))
+        put(&mut self.ranks, rank_of(met.sets, v))?;
+        let _ = mark(&mut self.records, v, false);
+        Ok(())
     }
 
     ghost is_guide = { most-met-is-guide };

@@ -5,6 +5,7 @@
 
 mod counting;
 mod ranks;
+mod records;
 mod search;
 
 pub use counting::Counting;
