@@ -11,7 +11,7 @@ ghost use Rattle.demand_agreement.specs.Clashes.{is_first, set_named};
 ghost use Rattle.demand_agreement.specs.Places.{AllBelow, demand_at, places_on};
 
 use crate::clash::{Clash, clash_of, least};
-use crate::twins::{differ, twins_of, under};
+use crate::twins::{differ, is_alike, twins_of, under};
 use choice_problem::{Choice, ConflictSet, Demand, Values, Var, is_same, push_named};
 use plan_types::NoMemory;
 use std::alloc::Global;
@@ -125,6 +125,9 @@ fn apart_from<A: Asked>(
     ensures { IfOk result (λ found. found.items ≡ apart_from trail.now (A.demands asked.now) owner target) }
 {
     if !is_same(under(owner, target), target) {
+        return Ok(Vec::new(alloc));
+    }
+    if is_alike(trail, target) {
         return Ok(Vec::new(alloc));
     }
     let twins = twins_of(alloc, trail, owner)?;

@@ -1,6 +1,8 @@
 // Choices of one instance under different qualifiers.
-ghost use Rattle.std.specs.Prelude.{◌≡◌, ◌++◌, ◌∷◌, [], cond, filter, IfOk, OnOk};
-ghost use Rattle.choice_problem.specs.Twins.{is_whole, under, are_twins, differ};
+ghost use Rattle.std.specs.Prelude.{◌≡◌, ◌++◌, ◌∷◌, [], true, cond, filter, option_to_list, IfOk, OnOk};
+ghost use Rattle.std.specs.List.{list_all};
+ghost use Rattle.choice_problem.specs.Twins.{is_of_package, is_whole, under, are_twins, differ};
+ghost use Rattle.demand_agreement.specs.Alike.{IsAlike, has_value};
 
 use choice_problem::{Choice, Values, Var, is_same};
 use plan_types::NoMemory;
@@ -41,6 +43,36 @@ pub(crate) fn differ(one: Option<u64>, other: Option<u64>) -> bool
     match (one, other) {
         (Some(m), Some(n)) => m != n,
         (Some(_), None) | (None, _) => false,
+    }
+}
+
+/// Whether all instances of an instance's package have its value, or a variable has no value yet. `false` says nothing.
+pub(crate) fn is_alike(trail: &Values<'_>, v: Var) -> bool
+    ensures { result ≡ true → IsAlike trail.now v }
+{
+    let Some(value) = trail.value_of(v) else {
+        return true;
+    };
+    if !is_whole(v.part) {
+        return false;
+    }
+    let (kept, last) = trail.instances_of(v.package);
+    all_have(kept, value) && may_have(last, v.package, value)
+}
+
+fn all_have(choices: &[Choice], value: u64) -> bool
+    ensures { result ≡ list_all (has_value value) choices.now }
+{
+    choices.iter().all(|c| c.val == value)
+}
+
+// Whether a choice has the value, where it is of the package's instance.
+fn may_have(last: Option<Choice>, package: u64, value: u64) -> bool
+    ensures { result ≡ list_all (has_value value) (filter (is_of_package «package») (option_to_list last)) }
+{
+    match last {
+        Some(c) if is_whole(c.var.part) && c.var.package == package => c.val == value,
+        Some(_) | None => true,
     }
 }
 
