@@ -127,10 +127,13 @@ fn apart_from<A: Asked>(
     if !is_same(under(owner, target), target) {
         return Ok(Vec::new(alloc));
     }
+    let twins = twins_of(alloc, trail, owner)?;
+    if twins.is_empty() {
+        return Ok(Vec::new(alloc));
+    }
     if is_alike(trail, target) {
         return Ok(Vec::new(alloc));
     }
-    let twins = twins_of(alloc, trail, owner)?;
     let mut found = Vec::new(alloc);
     for twin in twins.as_slice() {
         push_apart(alloc, &mut found, asked, trail, target, *twin)?;
