@@ -23,6 +23,13 @@ use plan_types::{
 use qualified_goals::Qual;
 use std::alloc::Global;
 
+/// A component, and whether its dependencies on the own package count.
+#[derive(Drop)]
+struct Dependent<'a> {
+    component: &'a Component,
+    own: bool,
+}
+
 /// What a node needs, in the order of its dependencies. The flags and places of the last node's package serve again.
 pub(crate) fn needs_of(
     alloc: Global,
@@ -151,7 +158,13 @@ fn push_one(
         (option_copied component.entry)) }
 {
     match component {
-        Some(component) => push_component(alloc, needs, chosen, owner, true, component),
+        Some(component) => {
+            let dependent = Dependent {
+                component,
+                own: true,
+            };
+            push_component(alloc, needs, chosen, owner, &dependent)
+        }
         None => Ok(()),
     }
 }
@@ -170,7 +183,11 @@ fn push_wanted(
 {
     for component in components {
         if owner.wants(chosen, component) {
-            push_component(alloc, needs, chosen, owner, false, component)?;
+            let dependent = Dependent {
+                component,
+                own: false,
+            };
+            push_component(alloc, needs, chosen, owner, &dependent)?;
         }
     }
     Ok(())
@@ -199,15 +216,15 @@ fn push_component(
     needs: &mut List<Need>,
     chosen: &Chosen<'_>,
     owner: &Owner<'_>,
-    own: bool,
-    component: &Component,
+    dependent: &Dependent<'_>,
 ) -> Result<(), NoMemory>
     requires { IsKnown (selection_of chosen.now) owner.now.known.now }
     ensures { OnOk result (needs.new ≡ needs.old
-        ++ component_needs (selection_of chosen.now) owner.now.node owner.now.known.now.flags own component.now) }
+        ++ component_needs (selection_of chosen.now) owner.now.node owner.now.known.now.flags dependent.now.own
+        dependent.now.component.now) }
 {
-    if chosen.condition_holds(&owner.known.flags, component.buildable.get()) {
-        push_deps(alloc, needs, chosen, owner, own, component)?;
+    if chosen.condition_holds(&owner.known.flags, dependent.component.buildable.get()) {
+        push_deps(alloc, needs, chosen, owner, dependent)?;
     }
     Ok(())
 }
@@ -217,16 +234,17 @@ fn push_deps(
     needs: &mut List<Need>,
     chosen: &Chosen<'_>,
     owner: &Owner<'_>,
-    own: bool,
-    component: &Component,
+    dependent: &Dependent<'_>,
 ) -> Result<(), NoMemory>
     requires known { IsKnown (selection_of chosen.now) owner.now.known.now }
-    requires built { condition_holds chosen.now.env.now owner.now.known.now.flags component.now.buildable ≡ true }
+    requires built { condition_holds chosen.now.env.now owner.now.known.now.flags
+        dependent.now.component.now.buildable ≡ true }
     ensures { OnOk result (needs.new ≡ needs.old
-        ++ component_needs (selection_of chosen.now) owner.now.node owner.now.known.now.flags own component.now) }
+        ++ component_needs (selection_of chosen.now) owner.now.node owner.now.known.now.flags dependent.now.own
+        dependent.now.component.now) }
 {
-    for group in component.deps.groups() {
-        push_group(alloc, needs, chosen, owner, own, component, group)?;
+    for group in dependent.component.deps.groups() {
+        push_group(alloc, needs, chosen, owner, dependent, group)?;
     }
     Ok(())
 }
@@ -237,18 +255,25 @@ fn push_group(
     needs: &mut List<Need>,
     chosen: &Chosen<'_>,
     owner: &Owner<'_>,
-    own: bool,
-    component: &Component,
+    dependent: &Dependent<'_>,
     group: &DepGroup,
 ) -> Result<(), NoMemory>
     requires known { IsKnown (selection_of chosen.now) owner.now.known.now }
-    requires built { condition_holds chosen.now.env.now owner.now.known.now.flags component.now.buildable ≡ true }
+    requires built { condition_holds chosen.now.env.now owner.now.known.now.flags
+        dependent.now.component.now.buildable ≡ true }
     ensures { OnOk result (needs.new ≡ needs.old
-        ++ needs_among (selection_of chosen.now) owner.now.node owner.now.known.now.flags own component.now
-        (of_group group.now)) }
+        ++ needs_among (selection_of chosen.now) owner.now.node owner.now.known.now.flags dependent.now.own
+        dependent.now.component.now (of_group group.now)) }
 {
     if chosen.condition_holds(&owner.known.flags, group.when.get()) {
-        push_asked(alloc, needs, chosen, owner, own, group.deps.as_slice())?;
+        push_asked(
+            alloc,
+            needs,
+            chosen,
+            owner,
+            dependent.own,
+            group.deps.as_slice(),
+        )?;
     }
     Ok(())
 }

@@ -9,4 +9,4 @@ returns-else-condition_holds c =
     let flags = c.args.owner.now.known.now.flags in
     let needs = c.args.needs.now in
     let false = sym (c.condition_holds.ensures ∙ ap (condition_holds selection.env flags) c.get.ensures) ∙ c.if-condition_holds.false in
-    sym (append-nil needs) ∙ ap (λ l. needs ++ l) (sym (no_needs selection flags c.args.own c.args.component.now c.args.owner.now.node false))
+    sym (append-nil needs) ∙ ap (λ l. needs ++ l) (sym (no_needs selection flags c.args.dependent.now.own c.args.dependent.now.component.now c.args.owner.now.node false))

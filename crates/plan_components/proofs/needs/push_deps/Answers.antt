@@ -14,10 +14,10 @@ loop-group-preserved c =
     let flags = c.args.owner.now.known.now.flags in
     let items = c.groups-group-items.result.now in
     let group = c.group-item.result in
-    let among : List GuardedDep → List Need = needs_among selection node flags c.args.own c.args.component.now in
+    let among : List GuardedDep → List Need = needs_among selection node flags c.args.dependent.now.own c.args.dependent.now.component.now in
     let more = in_groups (drop (c.loop-group.group-index + 1) items) in
     ap (λ l. l ++ among more) c.in_ok-push_group.ensures
     ∙ append_assoc c.loop-group.needs (among (of_group group)) (among more)
-    ∙ ap (λ l. c.loop-group.needs ++ l) (sym (among-append selection flags c.args.own c.args.component.now node (of_group group) more))
+    ∙ ap (λ l. c.loop-group.needs ++ l) (sym (among-append selection flags c.args.dependent.now.own c.args.dependent.now.component.now node (of_group group) more))
     ∙ ap (λ l. c.loop-group.needs ++ among (in_groups l)) (sym (drop_at items c.loop-group.group-index group c.loop-group-test.true c.group-item.is))
     ∙ c.loop-group.invariant

@@ -9,5 +9,5 @@ abbrev pub invariant-loop-group : goal.invariant-loop-group
 invariant-loop-group l =
     let selection = selection_of l.chosen in
     let flags = l.owner.known.now.flags in
-    l.needs ++ needs_among selection l.owner.node flags l.own l.component (in_groups (drop l.group-index l.group-items))
-    ≡ l.fn.needs ++ component_needs selection l.owner.node flags l.own l.component
+    l.needs ++ needs_among selection l.owner.node flags l.dependent.own l.dependent.component.now (in_groups (drop l.group-index l.group-items))
+    ≡ l.fn.needs ++ component_needs selection l.owner.node flags l.dependent.own l.dependent.component.now

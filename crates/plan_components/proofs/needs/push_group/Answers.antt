@@ -13,8 +13,8 @@ returns-in_ok-push_asked c =
     let group = c.args.group.now in
     let met : condition_holds selection.env flags group.when ≡ true = ap (condition_holds selection.env flags) (sym c.get.ensures) ∙ sym c.condition_holds.ensures ∙ c.if-condition_holds.true in
     c.in_ok-push_asked.ensures
-    ∙ ap (λ deps. c.args.needs.now ++ flat_map (dep_needs selection node) (filter (is_asked c.args.own) deps)) c.as_slice.ensures
-    ∙ ap (λ l. c.args.needs.now ++ l) (sym (all-among selection flags c.args.own c.args.component.now c.requires.built group.when node met group.deps))
+    ∙ ap (λ deps. c.args.needs.now ++ flat_map (dep_needs selection node) (filter (is_asked c.args.dependent.now.own) deps)) c.as_slice.ensures
+    ∙ ap (λ l. c.args.needs.now ++ l) (sym (all-among selection flags c.args.dependent.now.own c.args.dependent.now.component.now c.requires.built group.when node met group.deps))
 
 pub returns-else-condition_holds : goal.returns-else-condition_holds
 returns-else-condition_holds c =
@@ -23,4 +23,4 @@ returns-else-condition_holds c =
     let flags = c.args.owner.now.known.now.flags in
     let group = c.args.group.now in
     let unmet : condition_holds selection.env flags group.when ≡ false = ap (condition_holds selection.env flags) (sym c.get.ensures) ∙ sym c.condition_holds.ensures ∙ c.if-condition_holds.false in
-    sym (ap (λ l. c.args.needs.now ++ l) (none-among selection flags c.args.own c.args.component.now c.requires.built group.when node unmet group.deps) ∙ append-nil c.args.needs.now)
+    sym (ap (λ l. c.args.needs.now ++ l) (none-among selection flags c.args.dependent.now.own c.args.dependent.now.component.now c.requires.built group.when node unmet group.deps) ∙ append-nil c.args.needs.now)
