@@ -1,8 +1,10 @@
 pub mod NodeOrder
-pub mod Telling
 pub mod Members
+pub mod Telling
 pub mod Ranking
 pub mod PlannedNodes
+pub mod PlacedLines
+pub mod LinesLeft
 pub mod NeedsBefore
 pub mod Whole
 pub mod Sorted

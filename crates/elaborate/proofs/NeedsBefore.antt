@@ -32,7 +32,7 @@ use Rattle.plan_components.specs.Steps.{no_node}
 use Rattle.plan_lines.specs.declared.needed.Needed.{Needed}
 use Rattle.plan_lines.specs.Line.{line_by}
 use Rattle.node_lines.specs.Lines.{HasLine, ids_for, is_of_library, needed_by, told}
-use Rattle.node_lines.specs.Numbers.{row_of}
+use Rattle.plan_components.specs.Places.{row_of}
 use Rattle.node_lines.proofs.OneLine.{one}
 use Rattle.node_lines.proofs.NodePlaces.{at_place}
 use Rattle.elaborate.specs.declared.told.LinedNode.{LinedNode}

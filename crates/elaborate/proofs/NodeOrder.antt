@@ -8,7 +8,8 @@ use Rattle.plan_components.specs.declared.node.Node.{Node}
 use Rattle.plan_components.specs.contracts.node.NodeOrd.TheImpl.{cmp-value}
 use Rattle.plan_components.specs.contracts.node.NodeOrd.TheImpl.Laws.{total-law}
 use Rattle.elaborate.specs.declared.told.LinedNode.{LinedNode}
-use Rattle.elaborate.specs.Told.{node_cmp, lined_cmp}
+use Rattle.elaborate.specs.declared.told.PlacedLine.{PlacedLine}
+use Rattle.elaborate.specs.Told.{lined_cmp, node_cmp, placed_cmp}
 
 -- the derived order of nodes is `node_cmp`
 derived : (m n : Node) → cmp-value.it m n ≡ node_cmp m n
@@ -28,3 +29,6 @@ told-total =
 
 pub told-order : IsStrictWeakOrder (λ (x y : LinedNode). is_lt (lined_cmp x y))
 told-order = ranks_by told-total (λ (t : LinedNode). t)
+
+pub placed-order : IsStrictWeakOrder (λ (x y : PlacedLine). is_lt (placed_cmp x y))
+placed-order = ranks_by told-total (λ (p : PlacedLine). p.lined)

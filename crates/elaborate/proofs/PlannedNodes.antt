@@ -1,5 +1,5 @@
 -- Shared: the sorted nodes are those of the plan that have lines, and their graph is that of the definition.
-use Rattle.std.proofs.Common.{◌≡◌, ◌≢◌, ◌<◌, ℕ, true, List, [], ◌∷◌, map, length, Option, refl, sym, ap, ◌∙◌, subst}
+use Rattle.std.proofs.Common.{◌≡◌, ◌≢◌, ◌<◌, ℕ, true, List, [], ◌∷◌, map, length, replicate, get_or, Option, sym, ap, ◌∙◌, subst}
 use Rattle.std.specs.Prelude.{All, AllPairs, Contains, Decides}
 use Rattle.std.specs.Bool.{one_answer}
 use Rattle.std.specs.List.Sorted.{IsPermutation, IsSorted}
@@ -11,7 +11,7 @@ use Rattle.std.proofs.lemmas.Map.Made.{AllPairs-from_IsDistinct, IsDistinct-from
 use Rattle.build_order.proofs.PlacedNodes.{all_within}
 use Rattle.build_order.specs.Order.{IsBuildOrder}
 use Rattle.common_laws.specs.Graphs.{IsGraph}
-use Rattle.common_laws.specs.Lists.{all-where, contains-head, contains-map, contains-tail, map-contains}
+use Rattle.common_laws.specs.Lists.{all-where, contains-map, map-contains, map-map}
 use Rattle.plan_nodes.specs.declared.node.PlanNode.{PlanNode}
 use Rattle.plan_components.specs.declared.node.Need.{Need}
 use Rattle.plan_components.specs.declared.node.Node.{Node}
@@ -21,16 +21,18 @@ use Rattle.plan_components.specs.Needs.{needs_of}
 use Rattle.plan_components.specs.Plan.{AreReached, needed}
 use Rattle.plan_components.specs.SameNode.{node-is, node-self, place_of, same_node}
 use Rattle.plan_components.specs.Steps.{no_node}
+use Rattle.plan_components.proofs.NeedPlaces.{map-on}
 use Rattle.node_lines.specs.Lines.{AreLines, HasLine, told}
-use Rattle.node_lines.specs.Numbers.{row_of}
-use Rattle.node_lines.proofs.NodePlaces.{at_place, row_at, stands}
+use Rattle.plan_components.specs.Places.{row_of}
+use Rattle.node_lines.proofs.NodePlaces.{at_place, places_at, stands}
 use Rattle.elaborate.specs.declared.told.LinedNode.{LinedNode}
+use Rattle.elaborate.specs.declared.told.PlacedLine.{PlacedLine}
 use Rattle.elaborate.specs.Plan.{AreRanked, graph_of, nodes_of}
-use Rattle.elaborate.specs.Ranks.{needs_at, rank_of, ranked_row, ranks_after}
-use Rattle.elaborate.specs.Telling.{lined_nodes}
+use Rattle.elaborate.specs.Ranks.{rank_of, ranked_row, ranks_by}
+use Rattle.elaborate.specs.Telling.{lined_nodes, lined_of}
 use Rattle.elaborate.specs.Told.{lined_cmp}
 use Rattle.elaborate.proofs.Members.{beside, once_told, told_at}
-use Rattle.elaborate.proofs.Ranking.{rank_is}
+use Rattle.elaborate.proofs.Ranking.{rank_is, ranks_after, same_ranks}
 
 decides : (m n : Node) → Decides (same_node m n) (m ≡ n)
 decides m n = (node-is m n, λ e. subst (λ k. same_node m k ≡ true) e (node-self m))
@@ -47,10 +49,6 @@ still_once ms ns moved once =
 need_line : (selection : Selection) (node : Node) (line : PlanNode) → HasLine selection node line
     → (need : Need) → Contains (needs_of selection node) need → (l : PlanNode) × HasLine selection need.node l
 need_line selection node line (told n l line_at each is) need c = (line_at need.node, each need c)
-
-map-on : {X Y : Type 0} (f g : X → Y) (xs : List X) → ((x : X) → Contains xs x → f x ≡ g x) → map f xs ≡ map g xs
-map-on f g [] h = refl
-map-on f g (x ∷ xs) h = ap (λ y. y ∷ map f xs) (h x (contains-head x xs)) ∙ ap (λ l. g x ∷ l) (map-on f g xs (λ y c. h y (contains-tail x xs y c)))
 
 module _ (selection : Selection) (reached : Reached) (are : AreReached selection reached) (lines : List (Option PlanNode))
     (have : AreLines selection reached.set.keys lines) (all : List LinedNode) (moved : IsPermutation (lined_nodes reached.set.keys lines) all)
@@ -92,19 +90,35 @@ module _ (selection : Selection) (reached : Reached) (are : AreReached selection
   are_among : (m : Node) → Contains (nodes_of all) m → Contains keys m
   are_among m c = let from = contains-map (λ (t : LinedNode). t.node) all m c in subst (Contains keys) from.2 (reached_node from.0 from.1)
 
-  needs_are : (t : LinedNode) → Contains all t → needs_at reached t.node ≡ needs_of selection t.node
-  needs_are t c =
-      let at = at_place keys t.node (reached_node t c) in
-      row_at selection reached are (place_of keys t.node) at.within ∙ ap (needs_of selection) at.is
+  -- the ranks of these nodes and their graph are made by places
+  module _ (items : List PlacedLine) (is : map lined_of items ≡ all) (at : (p : PlacedLine) → Contains items p → p.place ≡ place_of keys p.lined.node) where
+    row_is : (p : PlacedLine) → Contains items p → ranked_row reached.places (ranks_after keys all) p ≡ row_of (nodes_of all) (needs_of selection p.lined.node)
+    row_is p c =
+        let t = p.lined in
+        let ranks = ranks_after keys all in
+        let needs = needs_of selection t.node in
+        let among = subst (λ l. Contains l t) is (map-contains lined_of items p c) in
+        let stands = at_place keys t.node (reached_node t among) in
+        let row : get_or reached.places p.place [] ≡ row_of keys needs =
+        ap (λ k. get_or reached.places k []) (at p c) ∙ ap (λ g. get_or g (place_of keys t.node) []) are.places
+        ∙ places_at selection reached are (place_of keys t.node) stands.within ∙ ap (λ n. row_of keys (needs_of selection n)) stands.is in
+        ap (map (rank_of ranks)) row
+        ∙ map-map (λ (n : Need). place_of keys n.node) (rank_of ranks) needs
+        ∙ map-on (λ (n : Need). rank_of ranks (place_of keys n.node)) (λ (n : Need). place_of (nodes_of all) n.node) needs
+        (λ need k. rank_is keys all need.node are_among ranked.once (need_told t among need k))
 
-  row_is : (t : LinedNode) → Contains all t → ranked_row reached (ranks_after keys all) t ≡ row_of (nodes_of all) (needs_of selection t.node)
-  row_is t c =
-      ap (map (λ (n : Need). rank_of reached (ranks_after keys all) n.node)) (needs_are t c)
-      ∙ map-on (λ (n : Need). rank_of reached (ranks_after keys all) n.node) (λ (n : Need). place_of (nodes_of all) n.node) (needs_of selection t.node)
-      (λ need k. rank_is keys all need.node are_among ranked.once (need_told t c need k))
+    graph_is : map (ranked_row reached.places (ranks_after keys all)) items ≡ graph_of selection all
+    graph_is =
+        let row = λ (t : LinedNode). row_of (nodes_of all) (needs_of selection t.node) in
+        map-on (ranked_row reached.places (ranks_after keys all)) (λ (p : PlacedLine). row p.lined) items row_is
+        ∙ sym (map-map lined_of row items) ∙ ap (map row) is
 
-  pub graph_is : map (ranked_row reached (ranks_after keys all)) all ≡ graph_of selection all
-  graph_is = map-on (ranked_row reached (ranks_after keys all)) (λ (t : LinedNode). row_of (nodes_of all) (needs_of selection t.node)) all row_is
+    pub made_graph : (ranks : List ℕ) (graph : List (List ℕ)) → ranks ≡ ranks_by (replicate (length keys) 0) 0 items
+        → graph ≡ map (ranked_row reached.places ranks) items → graph ≡ graph_of selection all
+    made_graph ranks graph ranks_are graph_are =
+        graph_are
+        ∙ ap (λ r. map (ranked_row reached.places r) items) (ranks_are ∙ same_ranks keys (replicate (length keys) 0) 0 items at ∙ ap (ranks_after keys) is)
+        ∙ graph_is
 
   pub graph_count : length (graph_of selection all) ≡ length all
   graph_count = length-map all (λ (t : LinedNode). row_of (nodes_of all) (needs_of selection t.node))
@@ -119,10 +133,6 @@ module _ (selection : Selection) (reached : Reached) (are : AreReached selection
 
   pub is_graph : IsGraph (graph_of selection all)
   is_graph = all-where (All (λ v. v < length (graph_of selection all))) (graph_of selection all) (λ row c. all-where (λ v. v < length (graph_of selection all)) row (within row c))
-
-  -- the graph made by ranks is that of the definition
-  pub made_graph : (ranks : List ℕ) (graph : List (List ℕ)) → ranks ≡ ranks_after keys all → graph ≡ map (ranked_row reached ranks) all → graph ≡ graph_of selection all
-  made_graph ranks graph ranks_are graph_are = graph_are ∙ ap (λ r. map (ranked_row reached r) all) ranks_are ∙ graph_is
 
   -- a build order has places of these nodes only
   pub places_within : (places : List ℕ) → IsBuildOrder (graph_of selection all) places → All (λ place. place < length all) places

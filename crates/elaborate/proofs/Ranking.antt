@@ -1,5 +1,5 @@
 -- After the loop the table has the rank of each node.
-use Rattle.std.proofs.Common.{◌≡◌, ◌≢◌, ◌<◌, ℕ, suc, ◌+◌, true, false, cond, not, set, List, [], ◌∷◌, length, get_or, replicate, refl, sym, ap, ◌∙◌, subst, arith, ⊎_elim}
+use Rattle.std.proofs.Common.{◌≡◌, ◌≢◌, ◌<◌, ℕ, suc, ◌+◌, true, false, cond, not, set, List, [], ◌∷◌, length, map, get_or, replicate, refl, sym, ap, ◌∙◌, subst, arith, ⊎_elim}
 use Rattle.std.specs.Prelude.{AllPairs, Contains}
 use Rattle.std.proofs.lemmas.Bool.{false≢true, lt-ltb}
 use Rattle.std.proofs.lemmas.List.{get_or-set_other, get_or-set_same, length-replicate, length-set}
@@ -10,7 +10,26 @@ use Rattle.plan_components.specs.Steps.{node_at}
 use Rattle.node_lines.proofs.NodePlaces.{at_place}
 use Rattle.elaborate.specs.declared.told.LinedNode.{LinedNode}
 use Rattle.elaborate.specs.Plan.{nodes_of}
-use Rattle.elaborate.specs.Ranks.{ranks_after, ranks_from, with_rank}
+use Rattle.elaborate.specs.declared.told.PlacedLine.{PlacedLine}
+use Rattle.elaborate.specs.Ranks.{ranks_by, with_rank}
+use Rattle.elaborate.specs.Telling.{lined_of}
+
+-- a table with the ranks of these nodes, counted from a place
+abbrev pub ranks_from : List Node → List ℕ → ℕ → List LinedNode → List ℕ
+ranks_from nodes ranks place [] = ranks
+ranks_from nodes ranks place (told ∷ all) = ranks_from nodes (with_rank ranks (place_of nodes told.node) place) (suc place) all
+
+-- the table of these nodes' ranks
+abbrev pub ranks_after : List Node → List LinedNode → List ℕ
+ranks_after nodes all = ranks_from nodes (replicate (length nodes) 0) 0 all
+
+-- it is the table by their places
+pub same_ranks : (nodes : List Node) (ranks : List ℕ) (rank : ℕ) (items : List PlacedLine) → ((p : PlacedLine) → Contains items p → p.place ≡ place_of nodes p.lined.node)
+    → ranks_by ranks rank items ≡ ranks_from nodes ranks rank (map lined_of items)
+same_ranks nodes ranks rank [] at = refl
+same_ranks nodes ranks rank (p ∷ items) at =
+    ap (λ k. ranks_by (with_rank ranks k rank) (suc rank) items) (at p (contains-head p items))
+    ∙ same_ranks nodes (with_rank ranks (place_of nodes p.lined.node) rank) (suc rank) items (λ q c. at q (contains-tail p items q c))
 
 module _ (nodes : List Node) where
   -- `place_of` is injective

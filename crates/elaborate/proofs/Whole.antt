@@ -16,7 +16,7 @@ use Rattle.plan_components.specs.Plan.{IsInPlan, needed}
 use Rattle.plan_components.specs.SameNode.{place_of}
 use Rattle.plan_components.specs.Steps.{no_node}
 use Rattle.node_lines.specs.Lines.{HasLine, HaveLines, told}
-use Rattle.node_lines.specs.Numbers.{row_of}
+use Rattle.plan_components.specs.Places.{row_of}
 use Rattle.node_lines.proofs.OneLine.{one}
 use Rattle.node_lines.proofs.NodePlaces.{IsAt, at_place}
 use Rattle.elaborate.specs.declared.told.LinedNode.{LinedNode}

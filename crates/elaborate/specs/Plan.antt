@@ -11,7 +11,7 @@ use Rattle.plan_components.specs.Needs.{needs_of}
 use Rattle.plan_components.specs.Plan.{IsInPlan}
 use Rattle.plan_components.specs.Steps.{no_node}
 use Rattle.node_lines.specs.Lines.{HasLine}
-use Rattle.node_lines.specs.Numbers.{row_of}
+use Rattle.plan_components.specs.Places.{row_of}
 use Rattle.elaborate.specs.Told.{lined_cmp}
 use Rattle.elaborate.specs.declared.told.LinedNode.{LinedNode}
 

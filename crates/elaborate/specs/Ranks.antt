@@ -1,32 +1,20 @@
 -- Ranks: the places of nodes in sorted order, by the places at which they were reached.
-use Rattle.std.specs.Prelude.{ℕ, suc, nat_lt, if◌then◌else◌, List, [], ◌∷◌, length, map, replicate, slice_set, slice_index_or}
-use Rattle.plan_components.specs.declared.node.Need.{Need}
-use Rattle.plan_components.specs.declared.node.Node.{Node}
-use Rattle.plan_components.specs.declared.reached.Reached.{Reached}
-use Rattle.plan_components.specs.SameNode.{place_of}
-use Rattle.elaborate.specs.declared.told.LinedNode.{LinedNode}
+use Rattle.std.specs.Prelude.{ℕ, suc, nat_lt, if◌then◌else◌, List, [], ◌∷◌, length, map, slice_set, slice_index_or}
+use Rattle.elaborate.specs.declared.told.PlacedLine.{PlacedLine}
 
--- a table with this rank for the node of a number
+-- a table with this rank at a place
 abbrev pub with_rank : List ℕ → ℕ → ℕ → List ℕ
-with_rank ranks number place = if nat_lt number (length ranks) then slice_set ranks number place else ranks
+with_rank ranks place rank = if nat_lt place (length ranks) then slice_set ranks place rank else ranks
 
--- a table with the ranks of these nodes, counted from a place
-abbrev pub ranks_from : List Node → List ℕ → ℕ → List LinedNode → List ℕ
-ranks_from nodes ranks place [] = ranks
-ranks_from nodes ranks place (told ∷ all) = ranks_from nodes (with_rank ranks (place_of nodes told.node) place) (suc place) all
+-- a table with the ranks of these nodes, counted from one
+abbrev pub ranks_by : List ℕ → ℕ → List PlacedLine → List ℕ
+ranks_by ranks rank [] = ranks
+ranks_by ranks rank (placed ∷ all) = ranks_by (with_rank ranks placed.place rank) (suc rank) all
 
--- the table of these nodes' ranks
-abbrev pub ranks_after : List Node → List LinedNode → List ℕ
-ranks_after nodes all = ranks_from nodes (replicate (length nodes) 0) 0 all
+-- the rank of the node at a place
+abbrev pub rank_of : List ℕ → ℕ → ℕ
+rank_of ranks place = slice_index_or ranks place 0
 
--- the needs of a reached node
-abbrev pub needs_at : Reached → Node → List Need
-needs_at reached node = slice_index_or reached.needs (place_of reached.set.keys node) []
-
--- the rank of a node
-abbrev pub rank_of : Reached → List ℕ → Node → ℕ
-rank_of reached ranks node = slice_index_or ranks (place_of reached.set.keys node) 0
-
--- the ranks of a node's needs
-abbrev pub ranked_row : Reached → List ℕ → LinedNode → List ℕ
-ranked_row reached ranks told = map (λ need. rank_of reached ranks need.node) (needs_at reached told.node)
+-- the ranks of a node's needs, by the places of all needs
+abbrev pub ranked_row : List (List ℕ) → List ℕ → PlacedLine → List ℕ
+ranked_row places ranks placed = map (rank_of ranks) (slice_index_or places placed.place [])

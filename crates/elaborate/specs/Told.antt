@@ -9,6 +9,7 @@ use Rattle.plan_components.specs.declared.node.Node.{Node}
 use Rattle.plan_components.specs.declared.node.Piece.{Piece}
 use Rattle.plan_components.specs.declared.node.Piece.TheVariants.{One, Whole}
 use Rattle.elaborate.specs.declared.told.LinedNode.{LinedNode}
+use Rattle.elaborate.specs.declared.told.PlacedLine.{PlacedLine}
 
 -- a whole package before its components, which are in file order
 abbrev pub piece_cmp : Piece → Piece → Ordering
@@ -30,3 +31,7 @@ lined_cmp a b =
     (slice_cmp nat_cmp a.line.component b.line.component))
     (slice_cmp nat_cmp a.line.id b.line.id))
     (node_cmp a.node b.node)
+
+-- the same, without regard to the places
+abbrev pub placed_cmp : PlacedLine → PlacedLine → Ordering
+placed_cmp a b = lined_cmp a.lined b.lined

@@ -5,6 +5,7 @@
 
 mod graph;
 mod laws;
+mod moves;
 mod plan;
 mod ranks;
 mod told;

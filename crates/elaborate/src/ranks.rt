@@ -1,9 +1,8 @@
 // Ranks: the places of nodes in sorted order, by the places at which they were reached.
-ghost use Rattle.std.specs.Prelude.{◌≡◌, ◌≢◌, AllPairs, IfOk, OnOk, length, map, slice_set, replicate};
-ghost use Rattle.plan_components.specs.SameNode.{place_of};
-ghost use Rattle.elaborate.specs.Ranks.{ranks_after, with_rank};
+ghost use Rattle.std.specs.Prelude.{◌≡◌, IfOk, length, replicate};
+ghost use Rattle.elaborate.specs.Ranks.{ranks_by, with_rank};
 
-use crate::told::LinedNode;
+use crate::told::PlacedLine;
 use plan_components::Reached;
 use plan_types::NoMemory;
 use std::alloc::Global;
@@ -12,21 +11,21 @@ use std::alloc::Global;
 pub(crate) fn ranks_of(
     alloc: Global,
     reached: &Reached,
-    all: &[LinedNode],
+    all: &[PlacedLine],
 ) -> Result<Vec<usize>, NoMemory>
-    ensures { IfOk result (λ ranks. ranks.items ≡ ranks_after reached.now.set.keys all.now) }
+    ensures { IfOk result (λ ranks. ranks.items ≡ ranks_by (replicate (length reached.now.set.keys) 0) 0 all.now) }
 {
     let mut ranks = vec![in alloc; 0; reached.nodes().len()]?;
-    for place in 0..all.len() {
-        put_rank(&mut ranks, reached.place_of(all[place].node), place);
+    for rank in 0..all.len() {
+        put_rank(&mut ranks, all[rank].place, rank);
     }
     Ok(ranks)
 }
 
-fn put_rank(ranks: &mut Vec<usize>, number: usize, place: usize)
-    ensures { ranks.new.items ≡ with_rank ranks.old.items number place }
+fn put_rank(ranks: &mut Vec<usize>, place: usize, rank: usize)
+    ensures { ranks.new.items ≡ with_rank ranks.old.items place rank }
 {
-    if number < ranks.len() {
-        ranks[number] = place;
+    if place < ranks.len() {
+        ranks[place] = rank;
     }
 }

@@ -1,8 +1,8 @@
 // The nodes of a plan that have lines.
 ghost use Rattle.std.specs.Prelude.{◌≡◌, ◌++◌, IfOk, OnOk, length};
 ghost use Rattle.std.specs.List.Sorted.{IsPermutation, IsSorted};
-ghost use Rattle.elaborate.specs.Telling.{lined_nodes, lined_node};
-ghost use Rattle.elaborate.specs.Told.{lined_cmp};
+ghost use Rattle.elaborate.specs.Telling.{placed_line, placed_lines};
+ghost use Rattle.elaborate.specs.Told.{lined_cmp, placed_cmp};
 
 use plan_components::Node;
 use plan_nodes::PlanNode;
@@ -17,30 +17,43 @@ pub struct LinedNode {
     pub line: PlanNode,
 }
 
-/// The nodes that have lines.
-pub(crate) fn lined_nodes(
+/// A node with its line, and the place at which it was reached.
+#[derive(Debug, Drop)]
+pub struct PlacedLine {
+    pub place: usize,
+    pub lined: LinedNode,
+}
+
+/// The nodes that have lines, with these and with their places.
+pub(crate) fn placed_lines(
     alloc: Global,
     nodes: &[Node],
     lines: List<Option<PlanNode>>,
-) -> Result<Vec<LinedNode>, NoMemory>
+) -> Result<Vec<PlacedLine>, NoMemory>
     requires { length lines ≡ length nodes.now }
-    ensures { IfOk result (λ all. all.items ≡ lined_nodes nodes.now lines) }
+    ensures { IfOk result (λ all. all.items ≡ placed_lines nodes.now lines) }
 {
     let mut all = Vec::new(alloc);
     let mut place = 0;
     for line in lines.into_vec() {
-        push_told(&mut all, nodes[place], line)?;
+        push_placed(&mut all, place, nodes[place], line)?;
         place += 1;
     }
     Ok(all)
 }
 
-fn push_told(all: &mut Vec<LinedNode>, node: Node, line: Option<PlanNode>) -> Result<(), NoMemory>
-    ensures { OnOk result (all.new.items ≡ all.old.items ++ lined_node node line) }
+fn push_placed(
+    all: &mut Vec<PlacedLine>,
+    place: usize,
+    node: Node,
+    line: Option<PlanNode>,
+) -> Result<(), NoMemory>
+    ensures { OnOk result (all.new.items ≡ all.old.items ++ placed_line place node line) }
 {
     match line {
         Some(line) => {
-            all.push(LinedNode { node, line })?;
+            let lined = LinedNode { node, line };
+            all.push(PlacedLine { place, lined })?;
             Ok(())
         }
         None => Ok(()),
@@ -48,11 +61,11 @@ fn push_told(all: &mut Vec<LinedNode>, node: Node, line: Option<PlanNode>) -> Re
 }
 
 /// Sorts nodes by name, version, component and identifier, then by qualifier, package and piece.
-pub(crate) fn sort_lined(all: &mut Vec<LinedNode>) -> Result<(), NoMemory>
+pub(crate) fn sort_placed(all: &mut Vec<PlacedLine>) -> Result<(), NoMemory>
     ensures permutation { IsPermutation all.old.items all.new.items }
-    ensures sorted { OnOk result (IsSorted lined_cmp all.new.items) }
+    ensures sorted { OnOk result (IsSorted placed_cmp all.new.items) }
 {
-    all.sort_by(|one, other| compare(one, other))?;
+    all.sort_by(|one, other| compare(&one.lined, &other.lined))?;
     Ok(())
 }
 

@@ -10,7 +10,7 @@ use Rattle.plan_components.specs.Plan.{AreReached}
 use Rattle.build_order.proofs.SomeOrder.{some_order}
 use Rattle.node_lines.specs.Along.{lines_along}
 use Rattle.node_lines.specs.Lines.{AreLines}
-use Rattle.node_lines.specs.Numbers.{graph_of as places_of}
+use Rattle.plan_components.specs.Places.{graph_of as places_of}
 use Rattle.node_lines.proofs.LineMaking.{are_lines}
 use Rattle.elaborate.specs.declared.told.LinedNode.{LinedNode}
 use Rattle.elaborate.specs.Plan.{IsPlan, graph_of, line_at}

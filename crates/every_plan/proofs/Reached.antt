@@ -15,6 +15,7 @@ use Rattle.plan_components.specs.declared.node.Node.{Node}
 use Rattle.plan_components.specs.declared.reached.Reached.{Reached}
 use Rattle.plan_components.specs.Chosen.{Selection}
 use Rattle.plan_components.specs.Needs.{needed_nodes, needs_of}
+use Rattle.plan_components.specs.Places.{graph_of}
 use Rattle.plan_components.specs.Plan.{AreReached, IsInPlan}
 use Rattle.plan_components.specs.Steps.{AppendsNew, node_at}
 use Rattle.plan_components.specs.Wanted.{first_nodes}
@@ -76,11 +77,12 @@ module _ (selection : Selection) where
   -- the end: the needs of all nodes are there
   ends : (nodes : List Node) (needs : List (List Need)) → Keeps selection nodes needs → Once nodes → length nodes ≤ length needs → Found
   ends nodes needs keeps once over = (
-    record { set = set_of nodes; needs = needs },
+    record { set = set_of nodes; needs = needs; places = graph_of (set_of nodes).keys needs },
     record {
       once = subst (AllPairs (λ a b. a ≢ b)) (sym (set_has nodes)) (differ nodes once);
       each = λ node. subst (λ l. Contains l node ↔ IsInPlan selection node) (sym (set_has nodes)) (each_reached selection nodes needs keeps over node);
       needs = all_needs selection nodes needs keeps over ∙ ap (map (needs_of selection)) (sym (set_has nodes));
+      places = refl;
     },
   )
 

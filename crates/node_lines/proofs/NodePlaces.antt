@@ -14,7 +14,7 @@ use Rattle.plan_components.specs.Plan.{AreReached, IsInPlan, needed}
 use Rattle.plan_components.specs.SameNode.{node-is, node-self, place_of, same_node}
 use Rattle.plan_components.specs.Steps.{no_node, node_at}
 use Rattle.common_laws.specs.Graphs.{IsGraph, Needs}
-use Rattle.node_lines.specs.Numbers.{graph_of, row_of}
+use Rattle.plan_components.specs.Places.{graph_of, row_of}
 
 -- the node at a place is this one
 pub record IsAt (nodes : List Node) (node : Node) (place : ℕ) : Type 0 where
@@ -56,7 +56,7 @@ module _ (selection : Selection) (reached : Reached) (are : AreReached selection
   pub row_at : (i : ℕ) → i < length nodes → get_or reached.needs i [] ≡ needs_of selection (node_at nodes i)
   row_at i lt = ap (λ rows. get_or rows i []) are.needs ∙ get_or-map (needs_of selection) nodes i no_node [] lt
 
-  places_at : (i : ℕ) → i < length nodes → get_or graph i [] ≡ row_of nodes (needs_of selection (node_at nodes i))
+  pub places_at : (i : ℕ) → i < length nodes → get_or graph i [] ≡ row_of nodes (needs_of selection (node_at nodes i))
   places_at i lt =
       get_or-map (row_of nodes) reached.needs i [] [] (subst (λ n. i < n) (sym same_count) lt) ∙ ap (row_of nodes) (row_at i lt)
 

@@ -1,9 +1,10 @@
 // The identifiers of a node's needs, from the lines so far.
-ghost use Rattle.std.specs.Prelude.{◌≡◌, ◌++◌, [], IfOk, IfSome, OnOk, slice_index_or};
+ghost use Rattle.std.specs.Prelude.{◌≡◌, ◌<◌, [], IfOk, OnOk, None, length, slice_index_or};
 ghost use Rattle.std.specs.Option.{option_copied};
-ghost use Rattle.node_lines.specs.Gather.{added, empty, gather_from, gathered, line_at, needed_of};
+ghost use Rattle.plan_components.specs.Places.{graph_of};
+ghost use Rattle.node_lines.specs.Gather.{added, empty, gathered, line_at, needed_of};
 
-use plan_components::{Need, Reached};
+use plan_components::Reached;
 use plan_lines::Needed;
 use plan_nodes::PlanNode;
 use plan_types::{DepKind, List, NoMemory, Text};
@@ -80,31 +81,36 @@ fn listed(alloc: Global, ids: BTreeSet<Text>) -> Result<List<Text>, NoMemory>
     Ok(list)
 }
 
-/// The identifiers of the needs; `None` if one of them has no line.
+/// The identifiers of the needs of the node at a place; `None` if one of them has no line.
 pub(crate) fn gather(
     alloc: Global,
     reached: &Reached,
     lines: &[Option<PlanNode>],
-    needs: &[Need],
+    place: usize,
 ) -> Result<Option<Needed>, NoMemory>
-    ensures { IfOk result (λ needed. needed ≡ gathered (line_at reached.now.set.keys lines.now) needs.now) }
+    requires places { reached.now.places ≡ graph_of reached.now.set.keys reached.now.needs }
+    requires within { place < length reached.now.needs }
+    ensures { IfOk result (λ needed. needed
+        ≡ gathered (line_at reached.now.set.keys lines.now) (slice_index_or reached.now.needs place [])) }
 {
     let mut sets = Sets::new(alloc);
-    for place in 0..needs.len() {
-        let need = needs[place];
-        match line_at(reached, lines, need) {
+    let needs = reached.needs.as_slice()[place].as_slice();
+    let places = reached.places.as_slice()[place].as_slice();
+    for k in 0..needs.len() {
+        match made_line(lines, places[k]) {
             None => return Ok(None),
-            Some(line) => sets.add(need.kind, &line.id)?,
+            Some(line) => sets.add(needs[k].kind, &line.id)?,
         }
     }
     let needed = sets.into_needed(alloc)?;
     Ok(Some(needed))
 }
 
-fn line_at<'a>(reached: &Reached, lines: &'a [Option<PlanNode>], need: Need) -> Option<&'a PlanNode>
-    ensures { option_copied result ≡ line_at reached.now.set.keys lines.now need.node }
+// The line of the node at a place, if it is made.
+fn made_line(lines: &[Option<PlanNode>], place: usize) -> Option<&PlanNode>
+    ensures { option_copied result ≡ slice_index_or lines.now place None }
 {
-    match lines.get(reached.place_of(need.node)) {
+    match lines.get(place) {
         Some(Some(line)) => Some(line),
         Some(None) => None,
         None => None,

@@ -6,7 +6,6 @@
 mod gather;
 mod laws;
 mod lines;
-mod numbers;
 
 pub use laws::one_line;
 pub use lines::lines_of;

@@ -1,12 +1,12 @@
 // Lines, made in build order.
 ghost use Rattle.std.specs.Prelude.{◌≡◌, ◌<◌, All, IfOk, length, replicate, slice_index_or, None};
 ghost use Rattle.plan_components.specs.Chosen.{selection_of};
+ghost use Rattle.plan_components.specs.Places.{graph_of};
 ghost use Rattle.plan_components.specs.Plan.{AreReached};
 ghost use Rattle.node_lines.specs.Lines.{AreLines};
 ghost use Rattle.node_lines.specs.Along.{line_from, lines_along};
 
 use crate::gather::gather;
-use crate::numbers::graph_of;
 use build_order::build_order;
 use plan_components::{Chosen, Reached};
 use plan_lines::line_of;
@@ -23,8 +23,7 @@ pub fn lines_of(
     requires { AreReached (selection_of chosen.now) reached.now }
     ensures { IfOk result (AreLines (selection_of chosen.now) reached.now.set.keys) }
 {
-    let graph = graph_of(alloc, reached)?;
-    let order = build_order(alloc, graph.as_slice())?;
+    let order = build_order(alloc, reached.places.as_slice())?;
     lines_along(alloc, chosen, reached, order.as_slice())
 }
 
@@ -35,6 +34,7 @@ fn lines_along(
     order: &[usize],
 ) -> Result<List<Option<PlanNode>>, NoMemory>
     requires count { length reached.now.needs ≡ length reached.now.set.keys }
+    requires places { reached.now.places ≡ graph_of reached.now.set.keys reached.now.needs }
     requires within { All (λ u. u < length reached.now.set.keys) order.now }
     ensures { IfOk result (λ lines. lines ≡ lines_along (selection_of chosen.now) reached.now order.now) }
 {
@@ -65,16 +65,12 @@ fn line_from(
     place: usize,
 ) -> Result<Option<PlanNode>, NoMemory>
     requires count { length reached.now.needs ≡ length reached.now.set.keys }
+    requires places { reached.now.places ≡ graph_of reached.now.set.keys reached.now.needs }
     requires within { place < length reached.now.set.keys }
     ensures { IfOk result (λ line. line ≡ line_from (selection_of chosen.now) reached.now lines.now place) }
 {
     let node = reached.nodes()[place];
-    match gather(
-        alloc,
-        reached,
-        lines,
-        reached.needs.as_slice()[place].as_slice(),
-    )? {
+    match gather(alloc, reached, lines, place)? {
         None => Ok(None),
         Some(needed) => line_of(alloc, chosen, node, needed),
     }

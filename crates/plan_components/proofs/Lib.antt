@@ -2,6 +2,7 @@ pub mod Apart
 pub mod Conditions
 pub mod SameNodes
 pub mod AddedNodes
+pub mod NeedPlaces
 pub mod Turns
 pub mod Values
 pub mod NodeWalk

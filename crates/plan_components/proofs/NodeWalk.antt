@@ -3,14 +3,16 @@ use Rattle.std.proofs.Common.{◌≡◌, ◌<◌, ◌≤◌, ◌↔◌, inl, inr
 use Rattle.std.specs.List.{Contains, slice_get}
 use Rattle.std.proofs.lemmas.List.{map-append, take_all, take_more, take-append-le}
 use Rattle.std.proofs.lemmas.List.Elements.{Contains-get_or, Contains-push_cases}
-use Rattle.common_laws.specs.Lists.{contains-none}
+use Rattle.common_laws.specs.Lists.{contains-map, contains-none, map-contains}
 use Rattle.plan_components.specs.declared.node.Need.{Need}
 use Rattle.plan_components.specs.declared.node.Node.{Node}
 use Rattle.plan_components.specs.Chosen.{Selection}
 use Rattle.plan_components.specs.Needs.{needed_nodes, needs_of}
+use Rattle.plan_components.specs.Places.{graph_of, row_of}
 use Rattle.plan_components.specs.Plan.{IsInPlan, first, needed}
 use Rattle.plan_components.specs.Steps.{AppendsNew, no_node, node_at}
 use Rattle.plan_components.specs.Wanted.{first_nodes}
+use Rattle.plan_components.proofs.NeedPlaces.{map-on, row_kept}
 
 -- the node found at a place
 pub here_is : (nodes : List Node) (i : ℕ) (node : Node) → slice_get nodes i ≡ Some node → node ≡ node_at nodes i
@@ -77,6 +79,18 @@ module _ (selection : Selection) where
           ∙ sym (map-append (needs_of selection) (take n nodes) (here ∷ [])) ∙ ap (map (needs_of selection)) (sym front);
       closed = shut;
     }
+
+  module _ (nodes more new : List Node) (needs : List (List Need)) (row : List Need) (keeps : Keeps selection nodes needs) (grown : new ≡ nodes ++ more) where
+    needed-there : (old : List Need) → Contains needs old → (need : Need) → Contains old need → Contains nodes need.node
+    needed-there old c need k =
+        let from = contains-map (needs_of selection) (take (length needs) nodes) old (subst (λ l. Contains l old) keeps.rows c) in
+        keeps.closed from.0 need.node from.1 (map-contains (λ (n : Need). n.node) (needs_of selection from.0) need (subst (λ r. Contains r need) (sym from.2) k))
+
+    -- the places of the needs so far stay, and those of one more node come behind them
+    pub places_next : graph_of nodes needs ++ row_of new row ∷ [] ≡ graph_of new (needs ++ row ∷ [])
+    places_next =
+        ap (λ l. l ++ row_of new row ∷ []) (map-on (row_of nodes) (row_of new) needs (λ old c. row_kept nodes more new grown old (needed-there old c)))
+        ∙ sym (map-append (row_of new) needs (row ∷ []))
 
   module _ (nodes : List Node) (needs : List (List Need)) (keeps : Keeps selection nodes needs) (over : length nodes ≤ length needs) where
     all : take (length needs) nodes ≡ nodes

@@ -7,7 +7,7 @@ use Rattle.plan_components.specs.contracts.node.NodePartialEq.TheImpl.{eq-value}
 use Rattle.plan_components.specs.declared.node.Node.{Node}
 use Rattle.plan_components.specs.SameNode.{node-is, node-self, place_of, same_node}
 
-derived : (m n : Node) → eq-value.it m n ≡ same_node m n
+pub derived : (m n : Node) → eq-value.it m n ≡ same_node m n
 derived m n = search rules
 
 -- ---- by the derived test

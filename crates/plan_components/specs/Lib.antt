@@ -4,6 +4,7 @@ pub mod Wanted
 pub mod Needs
 pub mod Known
 pub mod SameNode
+pub mod Places
 pub mod Plan
 pub mod Steps
 pub mod Examples

@@ -3,5 +3,5 @@ use Rattle.std.proofs.Common.{◌≡◌, map, take}
 use Rattle.elaborate.specs.Ranks.{ranked_row}
 use Rattle.elaborate.proofs.graph.graph_of.Given as goal
 
-abbrev pub invariant-loop-told : goal.invariant-loop-told
-invariant-loop-told l = l.graph ≡ map (ranked_row l.reached l.ranks) (take l.told-index l.all)
+abbrev pub invariant-loop-placed : goal.invariant-loop-placed
+invariant-loop-placed l = l.graph ≡ map (ranked_row l.places l.ranks) (take l.placed-index l.all)

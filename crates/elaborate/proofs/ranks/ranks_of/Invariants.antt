@@ -1,7 +1,7 @@
 -- the ranks so far, and the rest
-use Rattle.std.proofs.Common.{◌≡◌, drop}
-use Rattle.elaborate.specs.Ranks.{ranks_after, ranks_from}
+use Rattle.std.proofs.Common.{◌≡◌, drop, length, replicate}
+use Rattle.elaborate.specs.Ranks.{ranks_by}
 use Rattle.elaborate.proofs.ranks.ranks_of.Given as goal
 
-abbrev pub invariant-loop-place : goal.invariant-loop-place
-invariant-loop-place l = ranks_from l.reached.set.keys l.ranks.items l.place (drop l.place l.all) ≡ ranks_after l.reached.set.keys l.all
+abbrev pub invariant-loop-rank : goal.invariant-loop-rank
+invariant-loop-rank l = ranks_by l.ranks.items l.rank (drop l.rank l.all) ≡ ranks_by (replicate (length l.reached.set.keys) 0) 0 l.all

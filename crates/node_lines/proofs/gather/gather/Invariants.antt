@@ -3,7 +3,7 @@ use Rattle.std.proofs.Common.{◌≡◌, drop}
 use Rattle.node_lines.specs.Gather.{gather_from, gathered, line_at, needed_of}
 use Rattle.node_lines.proofs.gather.gather.Given as goal
 
-abbrev pub invariant-loop-place : goal.invariant-loop-place
-invariant-loop-place l =
+abbrev pub invariant-loop-k : goal.invariant-loop-k
+invariant-loop-k l =
     let lines = line_at l.reached.set.keys l.lines in
-    gather_from lines (needed_of l.sets) (drop l.place l.needs) ≡ gathered lines l.needs
+    gather_from lines (needed_of l.sets) (drop l.k l.needs) ≡ gathered lines l.needs

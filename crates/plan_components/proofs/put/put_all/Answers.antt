@@ -11,4 +11,4 @@ loop-other-preserved c =
     let old = c.args.nodes.now.keys in
     subst (λ l. AppendsNew l old c.put.new.nodes.keys) (same-list (take (i + 1) others))
     (puts_more (λ (n : Node). n) others i no_node c.loop-other-test.true old c.loop-other.nodes.keys c.put.new.nodes.keys
-    (subst (λ l. AppendsNew l old c.loop-other.nodes.keys) (sym (same-list (take i others))) c.loop-other.invariant) c.in_ok-put.ensures)
+    (subst (λ l. AppendsNew l old c.loop-other.nodes.keys) (sym (same-list (take i others))) c.loop-other.invariant) c.in_ok-put.ensures.put)

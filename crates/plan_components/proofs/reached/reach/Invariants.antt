@@ -1,13 +1,15 @@
-use Rattle.std.proofs.Common.{◌-◌, ◌^◌, length, IfSome}
+use Rattle.std.proofs.Common.{◌≡◌, ◌-◌, ◌^◌, length, IfSome}
 use Rattle.plan_components.proofs.NodeWalk.{Keeps}
 use Rattle.plan_components.specs.Chosen.{selection_of}
 use Rattle.plan_components.specs.Known.{IsKnown}
+use Rattle.plan_components.specs.Places.{graph_of}
 use Rattle.plan_components.proofs.reached.reach.Given as goal
 
--- the visited nodes, the ones yet to be visited, and the flags and places of the last package
+-- the visited nodes, the ones yet to be visited, the places of needs, and the flags and places of the last package
 abbrev pub invariant-loop-alloc : goal.invariant-loop-alloc
 invariant-loop-alloc l = record {
   keeps : Keeps (selection_of l.chosen) l.set.keys l.needs;
+  places : l.places ≡ graph_of l.set.keys l.needs;
   last : IfSome l.last (IsKnown (selection_of l.chosen));
 }
 

@@ -1,6 +1,6 @@
 use Rattle.std.proofs.Common.{length, ap, arith}
-use Rattle.elaborate.proofs.Telling.{told_step}
-use Rattle.elaborate.proofs.told.lined_nodes.Goals as goal
+use Rattle.elaborate.proofs.Telling.{placed_step}
+use Rattle.elaborate.proofs.told.placed_lines.Goals as goal
 
 pub loop-line-preserved : goal.loop-line-preserved
 loop-line-preserved c =
@@ -9,5 +9,5 @@ loop-line-preserved c =
     let longer = ap length steps in
     record {
       count = omega (arith, longer, count);
-      so_far = told_step c.args.nodes.now _ _ c.in-Some.line c.loop-line.place c.loop-line.all.items c.push_told.new.all.items _ count steps c.in_ok-push_told.ensures c.loop-line.invariant.so_far;
+      so_far = placed_step c.args.nodes.now _ _ c.in-Some.line c.loop-line.place c.loop-line.all.items c.push_placed.new.all.items _ count steps c.in_ok-push_placed.ensures c.loop-line.invariant.so_far;
     }
