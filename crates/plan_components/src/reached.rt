@@ -2,7 +2,6 @@
 ghost use Rattle.std.specs.Prelude.{◌≡◌, [], IfOk};
 ghost use Rattle.plan_components.specs.Chosen.{selection_of};
 ghost use Rattle.plan_components.specs.Plan.{AreReached};
-ghost use Rattle.plan_components.specs.SameNode.{place_of};
 ghost use Rattle.plan_components.specs.Steps.{AppendsNew};
 ghost use Rattle.plan_components.specs.Wanted.{first_nodes};
 
@@ -40,16 +39,6 @@ impl Reached {
         ensures { result.now ≡ self.now.set.keys }
     {
         self.set.as_slice()
-    }
-
-    /// The place of a node; the number of nodes for any other one.
-    pub fn place_of(&self, node: Node) -> usize
-        ensures { result ≡ place_of self.now.set.keys node }
-    {
-        match self.set.get_index_of(&node) {
-            Some(place) => place,
-            None => self.set.len(),
-        }
     }
 }
 
