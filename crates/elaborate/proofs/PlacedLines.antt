@@ -1,5 +1,5 @@
 -- The sorted lines without their places are the sorted nodes of the plan.
-use Rattle.std.proofs.Common.{◌≡◌, ◌<◌, ℕ, ◌+◌, List, [], length, map, get_or, replicate, Option, refl, sym, ap, ◌∙◌, subst, arith, is_lt}
+use Rattle.std.proofs.Common.{◌≡◌, ◌<◌, ℕ, ◌+◌, List, length, map, replicate, Option, refl, sym, ◌∙◌, subst, arith, is_lt}
 use Rattle.std.specs.Prelude.{All, Contains}
 use Rattle.std.specs.List.Sorted.{IsPermutation, IsSorted}
 use Rattle.std.proofs.lemmas.List.{get_or-map, length-map}

@@ -1,5 +1,5 @@
 -- Shared: the sorted nodes are those of the plan that have lines, and their graph is that of the definition.
-use Rattle.std.proofs.Common.{◌≡◌, ◌≢◌, ◌<◌, ℕ, true, List, [], ◌∷◌, map, length, replicate, get_or, Option, sym, ap, ◌∙◌, subst}
+use Rattle.std.proofs.Common.{◌≡◌, ◌≢◌, ◌<◌, ℕ, true, List, [], map, length, replicate, get_or, Option, sym, ap, ◌∙◌, subst}
 use Rattle.std.specs.Prelude.{All, AllPairs, Contains, Decides}
 use Rattle.std.specs.Bool.{one_answer}
 use Rattle.std.specs.List.Sorted.{IsPermutation, IsSorted}

@@ -1,4 +1,4 @@
-use Rattle.std.proofs.Common.{◌≡◌, ◌+◌, [], List, drop, get_or, None, sym, ap, ◌∙◌}
+use Rattle.std.proofs.Common.{◌≡◌, ◌+◌, [], drop, get_or, None, sym, ap, ◌∙◌}
 use Rattle.std.proofs.lemmas.List.{get_or-map, get_or_default}
 use Rattle.common_laws.specs.Lists.{drop_at}
 use Rattle.plan_types.specs.declared.dependency.DepKind.TheVariants.{Library}

@@ -1,4 +1,4 @@
-use Rattle.std.proofs.Common.{◌∷◌, [], ◌++◌, inr, take, map, sym, ap, ◌∙◌}
+use Rattle.std.proofs.Common.{◌∷◌, [], ◌++◌, inr, take, sym, ◌∙◌}
 use Rattle.std.proofs.lemmas.List.{map_more}
 use Rattle.common_laws.specs.Lists.{map-contains}
 use Rattle.plan_types.specs.declared.dependency.DepKind.TheVariants.{Library}
