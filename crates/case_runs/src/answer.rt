@@ -28,7 +28,7 @@ impl Faults {
 
 /// The exit status of a run, and its output.
 #[derive(Drop)]
-pub struct Answer {
+pub struct CaseAnswer {
     pub status: u8,
     pub output: String,
 }
@@ -58,12 +58,12 @@ pub fn answer_over<F: Folder>(
     run: &Run,
     folder: &mut F,
     faults: Faults,
-) -> Result<Answer, NoMemory> {
+) -> Result<CaseAnswer, NoMemory> {
     let fail_at = numbered(alloc, faults.write)?;
     let mut out = MemSink::new(alloc, faults.room, faults.most, fail_at)?;
     let status = status_of(alloc, &run.words, folder, &mut out);
     let output = text_of(alloc, out.bytes())?;
-    Ok(Answer { status, output })
+    Ok(CaseAnswer { status, output })
 }
 
 // Callers of this function know no clause of `run`.
@@ -86,7 +86,7 @@ pub fn text_of(alloc: Global, bytes: &[u8]) -> Result<String, NoMemory> {
 pub fn other_than_wanted(
     alloc: Global,
     run: &Run,
-    found: &Answer,
+    found: &CaseAnswer,
 ) -> Result<Option<String>, NoMemory> {
     let wanted = text_of(alloc, run.output.as_slice())?;
     if found.status == run.status && is_right(alloc, run, found, wanted.as_str())? {
@@ -100,7 +100,7 @@ pub fn other_than_wanted(
     Ok(Some(other))
 }
 
-fn is_right(alloc: Global, run: &Run, found: &Answer, wanted: &str) -> Result<bool, NoMemory> {
+fn is_right(alloc: Global, run: &Run, found: &CaseAnswer, wanted: &str) -> Result<bool, NoMemory> {
     match &run.digest {
         None => Ok(found.output.as_str() == wanted),
         Some(digest) => {

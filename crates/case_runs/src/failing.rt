@@ -1,5 +1,5 @@
 // Runs with faults, and runs over truncated files.
-use crate::answer::{Answer, Faults, answer_over, mem_folder, other_than_wanted, text_of};
+use crate::answer::{CaseAnswer, Faults, answer_over, mem_folder, other_than_wanted, text_of};
 use crate::case::Run;
 use crate::content::copied;
 use outside_folder::MemFile;
@@ -98,7 +98,7 @@ fn whole(alloc: Global, files: &[MemFile]) -> Result<List<MemFile>, NoMemory> {
     cut(alloc, files, usize::MAX, 0)
 }
 
-fn shown(alloc: Global, what: &str, found: &Answer) -> Result<Option<String>, NoMemory> {
+fn shown(alloc: Global, what: &str, found: &CaseAnswer) -> Result<Option<String>, NoMemory> {
     let (status, output) = (found.status, found.output.as_str());
     Ok(Some(format!(in alloc; "{what}: {status}\n{output}\n")?))
 }
@@ -256,7 +256,7 @@ fn other_of_cut(
 }
 
 // Whether an answer is a plan, that there is none, or a refusal.
-fn is_answer(found: &Answer) -> bool {
+fn is_answer(found: &CaseAnswer) -> bool {
     let output = found.output.as_str();
     match found.status {
         0 => output.starts_with("plan\n"),

@@ -37,7 +37,7 @@ use Rattle.plan_command.specs.Asked.{picking_of}
 use Rattle.plan_command.specs.Form.{IsPlanText, conflict_text_in, form_of, frozen_form, frozen_text, gave_up_text_in, old_freeze_text, summary_of}
 use Rattle.plan_command.specs.Output.{IsOutputOfOutcome, refused, usage}
 use Rattle.plan_command.specs.Run.{IsOutputAtEvents, IsOutputAtTask, IsOutputOf, IsOutputOfCommand, IsOutputOfFreeze, IsOutputOfGenerate, IsOutputOfPlan, IsOutputOfRead, IsOutputOfReplay, IsOutputOfTask}
-use Rattle.plan_command.specs.declared.status.Status.TheVariants as status
+use Rattle.plan_command.specs.declared.answer.Answer.TheVariants as answer
 use Rattle.every_output.proofs.Tasks.{task_in_goal_order}
 
 abbrev pub SomeTask : Type 0
@@ -96,10 +96,10 @@ module _ (some_task : SomeTask) (some_finding : SomeFinding) (some_plan : SomePl
     of_outcome env index names blame (outcome.Found trail counts) =
         let nodes = some_plan (selection_from index names env (value_in trail)) in
         let text = some_text index names trail nodes.0 counts in
-        (record { status = status.Planned; text = text.0 }, (nodes.0, nodes.1, record { status_is = refl; text_is = text.1 }))
+        (record { answer = answer.Planned; text = text.0 }, (nodes.0, nodes.1, record { answer_is = refl; text_is = text.1 }))
     of_outcome env index names blame (outcome.NoPlan set counts) =
-        (record { status = status.NoPlan; text = conflict_text_in form index names set blame counts }, refl)
-    of_outcome env index names blame (outcome.GaveUp counts) = (record { status = status.GaveUp; text = gave_up_text_in form index counts }, refl)
+        (record { answer = answer.NoPlan; text = conflict_text_in form index names set blame counts }, refl)
+    of_outcome env index names blame (outcome.GaveUp counts) = (record { answer = answer.GaveUp; text = gave_up_text_in form index counts }, refl)
 
     of_task : (picking : Picking) (minimize : Bool) (task : Task) → AreInGoalOrder task.index.packages → (output : _) × IsOutputOfTask picking minimize form task output
     of_task picking minimize task ordered =

@@ -19,7 +19,7 @@ pub fn some_task()
     some_folder_index();
 }
 
-/// All words and files have exactly one output: one status and one text.
+/// All words and files have exactly one output: one answer and one text.
 pub fn the_answer()
     ensures { (words : List Bytes) (files : Files) → (output : _) × IsOutputOf words files output
         × ((other : _) → IsOutputOf words files other → other ≡ output) }

@@ -62,7 +62,7 @@ given_by {B = B} f = B
 abbrev pub Form : Type 0
 Form = given_by form_of
 
--- a status with a text
+-- an answer with a text
 abbrev pub Output : Type 0
 Output = given_by refused
 

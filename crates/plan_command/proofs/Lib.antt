@@ -2,3 +2,4 @@ pub mod OneAnswer
 pub mod Outputs
 pub mod Words
 pub mod Buildable
+pub mod NoUsage

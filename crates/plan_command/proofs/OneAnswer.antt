@@ -76,9 +76,9 @@ module _ (project : OneProject) (one : OneIndex) (alike : OneFinding) (plan : On
   of_outcome form env index names blame (outcome.Found trail counts) a b (nodes, is-plan, is) (others, also-plan, also) =
       let same = plan (selection_from index names env (value_in trail)) nodes others is-plan also-plan in
       let here = subst (λ ns. IsPlanned form index names trail ns counts a) same is in
-      let status = here.status_is ∙ sym also.status_is in
+      let same_answer = here.answer_is ∙ sym also.answer_is in
       let text = one_text form index names trail others counts a.text b.text here.text_is also.text_is in
-      λ i. record { status = status i; text = text i }
+      λ i. record { answer = same_answer i; text = text i }
   of_outcome form env index names blame (outcome.NoPlan set counts) a b is also = is ∙ sym also
   of_outcome form env index names blame (outcome.GaveUp counts) a b is also = is ∙ sym also
 

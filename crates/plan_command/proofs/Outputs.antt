@@ -19,11 +19,10 @@ use Rattle.plan_command.specs.declared.form.Form.{Form}
 use Rattle.plan_command.specs.declared.form.Form.TheVariants.{Replay}
 use Rattle.plan_command.specs.declared.output.Output.{Output}
 use Rattle.plan_command.specs.declared.status.Status.{Status}
-use Rattle.plan_command.specs.declared.status.Status.TheVariants as status
 use Rattle.plan_command.specs.Output.{IsOutputOfOutcome, refused}
 use Rattle.plan_command.specs.Meaning.{Means, MeansReplay, MeansTask, MeansWith, at_events, of_events, of_files}
 use Rattle.plan_command.specs.Form.{frozen_form}
-use Rattle.plan_command.specs.Run.{IsOutputOfFreeze, IsOutputOfPlan, IsOutputOfReplay, IsPossibleOutput, IsOutputOfTask, Prints, of_refusal, of_task}
+use Rattle.plan_command.specs.Run.{IsOutputOfFreeze, IsOutputOfPlan, IsOutputOfReplay, IsPossibleOutput, IsOutputOfTask, Prints, failed_read, of_refusal, of_task, out_of_memory, text_prefix, whole_text}
 
 -- `IsPossibleOutput` is monotone in the forms
 pub some-wider : (picking : Picking) (minimize : Bool) (P Q : Form → Type 0) → ((form : Form) → P form → Q form) → (output : Output)
@@ -48,7 +47,7 @@ module _ (options : Options) (files : Files) where
           → MeansFailure minimize task.index task.settings names found blame
           → IsOutputOfOutcome form task.settings.env task.index names blame found output → Means picking minimize form options files output
       means-outcome names blame (outcome.Found trail counts) output h b (nodes, plan, is) =
-          subst (λ s. MeansWith s picking minimize form options files output.text) (sym is.status_is)
+          subst (λ s. MeansWith s picking minimize form options files output.text) (sym is.answer_is)
           (record { task = task; made = made; ready = ready; names = names; trail = trail; means = h; nodes = nodes; planned = plan; counts = counts; text_is = is.text_is })
       means-outcome names blame (outcome.NoPlan set counts) output h b is =
           subst (Means picking minimize form options files) (sym is)
@@ -99,20 +98,16 @@ module _ (options : Options) (files : Files) where
 
     pub unplanned-means : (refusal : Refusal) (output : Output) → IsTask options files (Err refusal) → output ≡ refused refusal → MeansReplay options path slots files output
     unplanned-means refusal output made is =
-        of_files (ap (λ (o : Output). o.status) is)
+        of_files (ap (λ (o : Output). o.answer) is)
         (record { refusal = refusal; made = made; text_is = ap (λ (o : Output). o.text) is })
 
 -- `Prints` is monotone in its relation
-pub prints-wider : (P Q : Output → Type 0) → ((o : Output) → P o → Q o) → (old new : Option Bytes) (result : Status) → Prints P old new result → Prints Q old new result
-prints-wider P Q wider old new status.ReadFault h = h
-prints-wider P Q wider old new status.NoMemory h = h
-prints-wider P Q wider old new status.WriteFault h = (h.0, wider h.0 h.1, h.2)
-prints-wider P Q wider old new status.Planned h = (h.0, wider h.0 h.1, h.2, h.3)
-prints-wider P Q wider old new status.NoPlan h = (h.0, wider h.0 h.1, h.2, h.3)
-prints-wider P Q wider old new status.GaveUp h = (h.0, wider h.0 h.1, h.2, h.3)
-prints-wider P Q wider old new status.Refused h = (h.0, wider h.0 h.1, h.2, h.3)
-prints-wider P Q wider old new status.Usage h = (h.0, wider h.0 h.1, h.2, h.3)
+pub prints-wider : (P Q : Output → Type 0) → ((o : Output) → P o → Q o) → (old new : Option Bytes) (end : Status) → Prints P old new end → Prints Q old new end
+prints-wider P Q wider old new end (whole_text output is answer_is appends) = whole_text output (wider output is) answer_is appends
+prints-wider P Q wider old new end (text_prefix output is failed appends) = text_prefix output (wider output is) failed appends
+prints-wider P Q wider old new end (failed_read failed same) = failed_read failed same
+prints-wider P Q wider old new end (out_of_memory none same) = out_of_memory none same
 
 -- a known output satisfies the relation
-pub prints-this : (P : Output → Type 0) (output : Output) → P output → (old new : Option Bytes) (result : Status) → Prints (λ printed. printed ≡ output) old new result → Prints P old new result
-prints-this P output h old new result prints = prints-wider (λ printed. printed ≡ output) P (λ o e. subst P (sym e) h) old new result prints
+pub prints-this : (P : Output → Type 0) (output : Output) → P output → (old new : Option Bytes) (end : Status) → Prints (λ printed. printed ≡ output) old new end → Prints P old new end
+prints-this P output h old new end prints = prints-wider (λ printed. printed ≡ output) P (λ o e. subst P (sym e) h) old new end prints

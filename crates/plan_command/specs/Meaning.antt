@@ -20,9 +20,9 @@ use Rattle.plan_search.specs.Meaning.{AreToBlame, IsBlamed, MeansTrail, ReachesL
 use Rattle.plan_search.specs.declared.search.Picking.{Picking}
 use Rattle.plan_search.specs.declared.search.Picking.TheVariants.{Least}
 use Rattle.plan_search.specs.declared.search.Finding.{Finding}
+use Rattle.plan_command.specs.declared.answer.Answer.{Answer}
+use Rattle.plan_command.specs.declared.answer.Answer.TheVariants as answer
 use Rattle.plan_command.specs.declared.output.Output.{Output}
-use Rattle.plan_command.specs.declared.status.Status.{Status}
-use Rattle.plan_command.specs.declared.status.Status.TheVariants as status
 use Rattle.plan_nodes.specs.declared.node.PlanNode.{PlanNode}
 use Rattle.plan_command.specs.declared.form.Form.{Form}
 use Rattle.plan_command.specs.declared.form.Form.TheVariants.{Summary, Replay}
@@ -75,20 +75,17 @@ pub record IsRefused (options : Options) (files : Files) (text : Bytes) : Type 0
   pub made : IsTask options files (Err refusal)
   pub text_is : text ≡ refusal_text refusal
 
--- what the text of a plan command means, by its status
-abbrev pub MeansWith : Status → Picking → Bool → Form → Options → Files → Bytes → Type 0
-MeansWith status.Planned picking minimize form options files text = PlansValid picking form options files text
-MeansWith status.NoPlan picking minimize form options files text = HasNone minimize form options files text
-MeansWith status.GaveUp picking minimize form options files text = GivesUp picking form options files text
-MeansWith status.Refused picking minimize form options files text = IsRefused options files text
-MeansWith status.Usage picking minimize form options files text = ⊥
-MeansWith status.ReadFault picking minimize form options files text = ⊥
-MeansWith status.WriteFault picking minimize form options files text = ⊥
-MeansWith status.NoMemory picking minimize form options files text = ⊥
+-- what the text of a plan command means, by its answer
+abbrev pub MeansWith : Answer → Picking → Bool → Form → Options → Files → Bytes → Type 0
+MeansWith answer.Planned picking minimize form options files text = PlansValid picking form options files text
+MeansWith answer.NoPlan picking minimize form options files text = HasNone minimize form options files text
+MeansWith answer.GaveUp picking minimize form options files text = GivesUp picking form options files text
+MeansWith answer.Refused picking minimize form options files text = IsRefused options files text
+MeansWith answer.Usage picking minimize form options files text = ⊥
 
 -- what the output of a plan command means, in this form, with these options, over these files
 abbrev pub Means : Picking → Bool → Form → Options → Files → Output → Type 0
-Means picking minimize form options files output = MeansWith output.status picking minimize form options files output.text
+Means picking minimize form options files output = MeansWith output.answer picking minimize form options files output.text
 
 -- what the output of `generate` means
 abbrev pub MeansGenerated : ℕ → Limit → Output → Type 0
@@ -120,4 +117,4 @@ pub data MeansReplay (options : Options) (path : Bytes) (slots : ℕ) (files : F
   -- the events are refused
   of_events : RefusesEvents options path files output → MeansReplay options path slots files output
   -- the files of the plan are refused, so no events are read
-  of_files : output.status ≡ status.Refused → IsRefused options files output.text → MeansReplay options path slots files output
+  of_files : output.answer ≡ answer.Refused → IsRefused options files output.text → MeansReplay options path slots files output

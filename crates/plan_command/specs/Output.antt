@@ -17,13 +17,14 @@ use Rattle.plan_print.specs.Texts.{refusal_text}
 use Rattle.plan_search.specs.declared.blame.Blame.{Blame}
 use Rattle.plan_command.specs.declared.form.Form.{Form}
 use Rattle.plan_command.specs.Form.{IsPlanText, conflict_text_in, gave_up_text_in}
+use Rattle.plan_command.specs.declared.answer.Answer.TheVariants as answer
 use Rattle.plan_command.specs.declared.output.Output.{Output}
 use Rattle.plan_command.specs.declared.status.Status.{Status}
 use Rattle.plan_command.specs.declared.status.Status.TheVariants as status
 
 -- the output of a refusal
 abbrev pub refused : Refusal → Output
-refused refusal = record { status = status.Refused; text = refusal_text refusal }
+refused refusal = record { answer = answer.Refused; text = refusal_text refusal }
 
 -- the nodes of a trail's plan
 abbrev pub ArePlanned : Env → Index → NameTable → List Choice → List PlanNode → Type 0
@@ -36,7 +37,7 @@ IsTextOfPlan form env index names trail counts text =
 
 -- the output of a plan
 pub record IsPlanned (form : Form) (index : Index) (names : NameTable) (trail : List Choice) (nodes : List PlanNode) (counts : Counts) (output : Output) : Type 0 where
-  pub status_is : output.status ≡ status.Planned
+  pub answer_is : output.answer ≡ answer.Planned
   pub text_is : IsPlanText form index names trail nodes counts output.text
 
 -- the output of an outcome, with the blame of a failure
@@ -44,9 +45,9 @@ abbrev pub IsOutputOfOutcome : Form → Env → Index → NameTable → Blame �
 IsOutputOfOutcome form env index names blame (outcome.Found trail counts) output =
     (nodes : List PlanNode) × ArePlanned env index names trail nodes × IsPlanned form index names trail nodes counts output
 IsOutputOfOutcome form env index names blame (outcome.NoPlan set counts) output =
-    output ≡ record { status = status.NoPlan; text = conflict_text_in form index names set blame counts }
+    output ≡ record { answer = answer.NoPlan; text = conflict_text_in form index names set blame counts }
 IsOutputOfOutcome form env index names blame (outcome.GaveUp counts) output =
-    output ≡ record { status = status.GaveUp; text = gave_up_text_in form index counts }
+    output ≡ record { answer = answer.GaveUp; text = gave_up_text_in form index counts }
 
 -- the line for words without a reading
 abbrev pub usage_text : Bytes
@@ -54,18 +55,7 @@ usage_text = codes "usage: cabal-plan plan or generate, with options" ++ 10 ∷ 
 
 -- the output for words without a reading
 abbrev pub usage : Output
-usage = record { status = status.Usage; text = usage_text }
-
--- the status of an output, not that of a run that failed
-abbrev pub HasOutput : Status → Type 0
-HasOutput status.Planned = Unit {0}
-HasOutput status.NoPlan = Unit {0}
-HasOutput status.GaveUp = Unit {0}
-HasOutput status.Refused = Unit {0}
-HasOutput status.Usage = Unit {0}
-HasOutput status.ReadFault = ⊥
-HasOutput status.WriteFault = ⊥
-HasOutput status.NoMemory = ⊥
+usage = record { answer = answer.Usage; text = usage_text }
 
 -- the end of a run whose words have no reading: the usage line was written, or its write failed
 abbrev pub IsUsageEnd : Status → Type 0

@@ -22,6 +22,7 @@ use Rattle.plan_search.specs.Finding.{IsFindingOf}
 use Rattle.plan_search.specs.declared.search.Finding.{Finding}
 use Rattle.plan_search.specs.declared.search.Picking.{Picking}
 use Rattle.plan_search.specs.declared.search.Picking.TheVariants.{Least}
+use Rattle.plan_command.specs.declared.answer.Answer.TheVariants as answer
 use Rattle.plan_command.specs.declared.status.Status.{Status}
 use Rattle.plan_command.specs.declared.status.Status.TheVariants as status
 use Rattle.plan_command.specs.declared.output.Output.{Output}
@@ -30,6 +31,7 @@ use Rattle.plan_command.specs.declared.form.Form.TheVariants.{Summary, Freeze as
 use Rattle.plan_command.specs.Form.{form_of, frozen_form}
 use Rattle.plan_command.specs.Asked.{picking_of}
 use Rattle.plan_command.specs.Output.{ArePlanned, IsOutputOfOutcome, IsPlanned, refused, usage}
+use Rattle.plan_command.specs.Status.{status_of}
 
 -- ---- the output of words over a folder
 
@@ -150,19 +152,18 @@ OutputInOrder command = (output : Output) × IsInOrder (picking_for command) (mi
 
 -- a printed plan is in order, and the usage line is no plan
 abbrev pub BuildsInOrder : Option Command → Output → Type 0
-BuildsInOrder None output = output.status ≢ status.Planned
-BuildsInOrder (Some command) output = output.status ≡ status.Planned → IsInOrder (picking_for command) (minimizes command) (IsFormOf command) output
+BuildsInOrder None output = output.answer ≢ answer.Planned
+BuildsInOrder (Some command) output = output.answer ≡ answer.Planned → IsInOrder (picking_for command) (minimizes command) (IsFormOf command) output
 
 -- ---- the sink after a run
 
--- The bytes that a run adds to the sink: none after a failed read or out of memory, a prefix of an output's text
--- after a failed write, else the whole text, with the output's status.
-abbrev pub Prints : (Output → Type 0) → Option Bytes → Option Bytes → Status → Type 0
-Prints IsOutput old new status.ReadFault = new ≡ old
-Prints IsOutput old new status.NoMemory = new ≡ old
-Prints IsOutput old new status.WriteFault = (output : Output) × IsOutput output × AppendsPrefix old new output.text
-Prints IsOutput old new status.Planned = (output : Output) × IsOutput output × (status.Planned ≡ output.status) × Appends old new output.text
-Prints IsOutput old new status.NoPlan = (output : Output) × IsOutput output × (status.NoPlan ≡ output.status) × Appends old new output.text
-Prints IsOutput old new status.GaveUp = (output : Output) × IsOutput output × (status.GaveUp ≡ output.status) × Appends old new output.text
-Prints IsOutput old new status.Refused = (output : Output) × IsOutput output × (status.Refused ≡ output.status) × Appends old new output.text
-Prints IsOutput old new status.Usage = (output : Output) × IsOutput output × (status.Usage ≡ output.status) × Appends old new output.text
+-- The bytes that a run adds to the sink, by its end.
+pub data Prints (IsOutput : Output → Type 0) (old new : Option Bytes) (end : Status) : Type 0 where
+  -- the whole text of an output, and the end is the status of its answer
+  whole_text : (output : Output) → IsOutput output → end ≡ status_of output.answer → Appends old new output.text → Prints IsOutput old new end
+  -- a prefix of an output's text, after a failed write
+  text_prefix : (output : Output) → IsOutput output → end ≡ status.WriteFault → AppendsPrefix old new output.text → Prints IsOutput old new end
+  -- none after a failed read
+  failed_read : end ≡ status.ReadFault → new ≡ old → Prints IsOutput old new end
+  -- none out of memory
+  out_of_memory : end ≡ status.NoMemory → new ≡ old → Prints IsOutput old new end

@@ -7,20 +7,21 @@ ghost use Rattle.plan_types.specs.declared.limit.Limit.{Limit as TheLimit};
 ghost use Rattle.command_line.specs.Reading.{IsBounded, reading};
 ghost use Rattle.command_line.specs.declared.reading.Command.TheVariants.{Freeze, Generate, Plan, Replay};
 ghost use Rattle.command_line.specs.declared.reading.Options.{Options as PlanOptions};
-ghost use Rattle.plan_command.specs.Output.{HasOutput, IsUsageEnd, usage};
+ghost use Rattle.plan_command.specs.Output.{IsUsageEnd, usage};
 ghost use Rattle.plan_command.specs.Form.{form_of};
 ghost use Rattle.plan_command.specs.Asked.{picking_of};
 ghost use Rattle.plan_search.specs.declared.search.Picking.TheVariants.{Least, MostMet};
 ghost use Rattle.plan_command.specs.Meaning.{Means, MeansFreeze, MeansGenerated, MeansReplay};
 ghost use Rattle.plan_command.specs.Run.{BuildsInOrder, IsOutputOf, IsOutputOfCommand, MayPrint, Prints, Reads};
+ghost use Rattle.plan_command.specs.Status.{status_of};
 
-use crate::Status;
 use crate::form::form_of;
 use crate::freeze::output_of_freeze;
 use crate::generate::output_of_generate;
 use crate::output::Output;
 use crate::plan::output_of_plan;
 use crate::replay::output_of_replay;
+use crate::{Answer, Status};
 use command_line::{Command, WordsFault, read_words};
 use outside_folder::{Folder, Sink, Trouble, write_all};
 use plan_types::Text;
@@ -99,7 +100,7 @@ pub fn print_usage<S: Sink>(out: &mut S) -> Status
     ensures status { IsUsageEnd result }
 {
     match write_all(out, USAGE.as_bytes()) {
-        Ok(()) => Status::Usage,
+        Ok(()) => Status::of(Answer::Usage),
         Err(_) => Status::WriteFault,
     }
 }
@@ -132,7 +133,6 @@ fn perform<F: Folder, S: Sink>(
     ensures sink { S.faults out.old ≤ S.faults out.new }
     ensures sink_unchanged { result ≢ Status.WriteFault → S.faults out.new ≡ S.faults out.old }
     ensures write_fault { result ≡ Status.WriteFault → Rose (S.faults out.old) (S.faults out.new) }
-    ensures read { result ≢ Status.Usage }
 {
     match output_of(alloc, command, folder) {
         Ok(output) => print(&output, out),
@@ -160,8 +160,6 @@ fn output_of<F: Folder>(alloc: Global, command: Command, folder: &mut F) -> Resu
     ensures folder_untouched { (number : ℕ) (limit : TheLimit) → command ≡ Generate number limit
         → (folder.new ≡ folder.old) × (IsErrOf result Trouble.Failed → ⊥) }
     ensures form { IfOk result (MayPrint (Some command)) }
-    ensures made { IfOk result (λ output. HasOutput output.status) }
-    ensures read { IfOk result (λ output. output.status ≢ Status.Usage) }
     ensures folder { Leaves F.tells F.faults folder.old folder.new (IsErrOf result Trouble.Failed) }
 {
     match command {
@@ -182,18 +180,17 @@ fn output_of<F: Folder>(alloc: Global, command: Command, folder: &mut F) -> Resu
     }
 }
 
-// Writes an output, and returns its status if the whole text was written.
+// Writes an output, and returns the status of its answer if the whole text was written.
 fn print<S: Sink>(output: &Output, out: &mut S) -> Status
-    requires { HasOutput output.now.status }
     ensures prints { Prints (λ printed. printed ≡ output.now) (S.bytes out.old) (S.bytes out.new) result }
     ensures sink { S.faults out.old ≤ S.faults out.new }
     ensures sink_unchanged { result ≢ Status.WriteFault → S.faults out.new ≡ S.faults out.old }
     ensures write_fault { result ≡ Status.WriteFault → Rose (S.faults out.old) (S.faults out.new) }
-    ensures status { result ≢ Status.WriteFault → result ≡ output.now.status }
+    ensures status { result ≢ Status.WriteFault → result ≡ status_of output.now.answer }
     ensures no_read_fault { result ≢ Status.ReadFault }
 {
     match write_all(out, output.text.as_bytes()) {
-        Ok(()) => output.status,
+        Ok(()) => Status::of(output.answer),
         Err(_) => Status::WriteFault,
     }
 }

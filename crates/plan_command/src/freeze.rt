@@ -1,16 +1,14 @@
 // The command `freeze`: a plan as the constraints of its choices, after the old freeze file.
-ghost use Rattle.std.specs.Prelude.{◌≡◌, ◌≢◌, IfOk, IsErrOf, Some};
+ghost use Rattle.std.specs.Prelude.{◌≡◌, IfOk, IsErrOf, Some};
 ghost use Rattle.choice_problem.specs.Trail.{AreNew};
 ghost use Rattle.outside_folder.specs.Calls.{Leaves};
 ghost use Rattle.outside_folder.specs.Files.{Files};
 ghost use Rattle.freeze_text.specs.Text.{ends_with_newline, with_newline};
 ghost use Rattle.plan_command.specs.Form.{frozen_text, old_freeze_text};
 ghost use Rattle.command_line.specs.declared.reading.Command.TheVariants.{Freeze};
-ghost use Rattle.plan_command.specs.Output.{HasOutput};
 ghost use Rattle.plan_command.specs.Meaning.{MeansFreeze};
 ghost use Rattle.plan_command.specs.Run.{IsOutputOfFreeze, MayPrint};
 
-use crate::Status;
 use crate::form::Form;
 use crate::output::{Output, halted};
 use crate::plan::planned;
@@ -35,8 +33,6 @@ pub(crate) fn output_of_freeze<F: Folder>(
     ensures observed { (files : Files) → F.tells folder.old ≡ Some files
         → IfOk result (IsOutputOfFreeze options files) }
     ensures form { IfOk result (MayPrint (Some (Freeze options))) }
-    ensures made { IfOk result (λ output. HasOutput output.status) }
-    ensures read { IfOk result (λ output. output.status ≢ Status.Usage) }
     ensures folder { Leaves F.tells F.faults folder.old folder.new (IsErrOf result Trouble.Failed) }
 {
     match read_task(alloc, options, folder) {

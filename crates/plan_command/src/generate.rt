@@ -1,11 +1,9 @@
 // The command `generate`: a plan of the folder generated from a number.
-ghost use Rattle.std.specs.Prelude.{◌≡◌, ◌≢◌, ◌≤◌, IfOk, Some};
+ghost use Rattle.std.specs.Prelude.{◌≡◌, ◌≤◌, IfOk, Some};
 ghost use Rattle.command_line.specs.declared.reading.Command.TheVariants.{Generate};
-ghost use Rattle.plan_command.specs.Output.{HasOutput};
 ghost use Rattle.plan_command.specs.Meaning.{MeansGenerated};
 ghost use Rattle.plan_command.specs.Run.{IsOutputOfGenerate, MayPrint};
 
-use crate::Status;
 use crate::form::Form;
 use crate::output::Output;
 use crate::plan::output_of_plan;
@@ -25,8 +23,6 @@ pub(crate) fn output_of_generate(
     ensures meaning { IfOk result (MeansGenerated number limit) }
     ensures output { IfOk result (IsOutputOfGenerate number limit) }
     ensures form { IfOk result (MayPrint (Some (Generate number limit))) }
-    ensures made { IfOk result (λ output. HasOutput output.status) }
-    ensures read { IfOk result (λ output. output.status ≢ Status.Usage) }
 {
     let options = default_options(alloc, limit)?;
     let mut folder = FaultlessFolder::new(generate(alloc, number)?);

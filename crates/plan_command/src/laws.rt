@@ -11,7 +11,7 @@ use plan_search::one_finding;
 use project_config::one_folder_project;
 use replay_text::one_replay;
 
-/// Words and files determine the output: its status and its text.
+/// Words and files determine the output: its answer and its text.
 pub fn one_answer()
     ensures { (words : List Bytes) (files : Files) (a b : Output) → IsOutputOf words files a → IsOutputOf words files b
         → a ≡ b }

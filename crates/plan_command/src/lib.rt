@@ -4,6 +4,7 @@
 //! before the first write, so a run writes one text, a prefix of it, or nothing.
 #![tactic(auto)]
 
+mod answer;
 mod command;
 mod form;
 mod freeze;
@@ -14,6 +15,7 @@ mod plan;
 mod replay;
 mod status;
 
+pub use answer::Answer;
 pub use command::{print_usage, run};
 pub use laws::one_answer;
 pub use status::{Status, code_of};

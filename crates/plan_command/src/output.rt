@@ -1,14 +1,14 @@
 // The output of a run. Its whole text is made before the first write.
-ghost use Rattle.std.specs.Prelude.{◌≡◌, ◌≢◌, List, IfOk, IsErrOf};
+ghost use Rattle.std.specs.Prelude.{◌≡◌, List, IfOk, IsErrOf};
 ghost use Rattle.plan_types.specs.declared.refusal.Refusal.{Refusal as TheRefusal};
 ghost use Rattle.flatten.specs.Sound.{IsSound};
 ghost use Rattle.choice_problem.specs.Trail.{AreNew};
 ghost use Rattle.choice_problem.specs.declared.outcome.Counts.{Counts as TheCounts};
 ghost use Rattle.choice_problem.specs.declared.outcome.Outcome.TheVariants.{Found};
 ghost use Rattle.choice_problem.specs.declared.problem.Choice.{Choice as TheChoice};
-ghost use Rattle.plan_command.specs.Output.{HasOutput, IsOutputOfOutcome, refused};
+ghost use Rattle.plan_command.specs.Output.{IsOutputOfOutcome, refused};
 
-use crate::Status;
+use crate::Answer;
 use crate::form::{Form, conflict_text_in, gave_up_text_in, plan_text_in};
 use choice_problem::Outcome;
 use outside_folder::Trouble;
@@ -17,10 +17,10 @@ use plan_search::Finding;
 use plan_types::{Env, Halt, Index, NoMemory, Refusal, Text};
 use std::alloc::Global;
 
-/// The text that a run prints, and the status that it ends with.
+/// The answer of a run, and the text that it prints.
 #[derive(Debug, Drop)]
 pub(crate) struct Output {
-    pub status: Status,
+    pub answer: Answer,
     pub text: Text,
 }
 
@@ -28,8 +28,6 @@ pub(crate) struct Output {
 pub(crate) fn halted(alloc: Global, halt: Halt) -> Result<Output, Trouble>
     ensures refused { IfOk result (λ output. (refusal : TheRefusal) × (halt ≡ Halt.Refused refusal)
         × (output ≡ refused refusal)) }
-    ensures made { IfOk result (λ output. HasOutput output.status) }
-    ensures read { IfOk result (λ output. output.status ≢ Status.Usage) }
     ensures failed { IsErrOf result Trouble.Failed → halt ≡ Halt.Failed }
     ensures failure_passed_on { halt ≡ Halt.Failed → IsErrOf result Trouble.Failed }
 {
@@ -42,11 +40,9 @@ pub(crate) fn halted(alloc: Global, halt: Halt) -> Result<Output, Trouble>
 
 fn refused(alloc: Global, refusal: &Refusal) -> Result<Output, NoMemory>
     ensures output { IfOk result (λ output. output ≡ refused refusal.now) }
-    ensures made { IfOk result (λ output. HasOutput output.status) }
-    ensures read { IfOk result (λ output. output.status ≢ Status.Usage) }
 {
     Ok(Output {
-        status: Status::Refused,
+        answer: Answer::Refused,
         text: text_of_refusal(alloc, refusal)?,
     })
 }
@@ -63,21 +59,19 @@ pub(crate) fn output_of_finding(
         → AreNew trail }
     ensures output { IfOk result (IsOutputOfOutcome form.now env.now index.now finding.now.names finding.now.blame
         finding.now.outcome) }
-    ensures made { IfOk result (λ output. HasOutput output.status) }
-    ensures read { IfOk result (λ output. output.status ≢ Status.Usage) }
 {
     let names = &finding.names;
     match &finding.outcome {
         Outcome::Found { trail, counts } => Ok(Output {
-            status: Status::Planned,
+            answer: Answer::Planned,
             text: plan_text_in(alloc, form, env, trail, index, names, *counts)?,
         }),
         Outcome::NoPlan { set, counts } => Ok(Output {
-            status: Status::NoPlan,
+            answer: Answer::NoPlan,
             text: conflict_text_in(alloc, form, set, &finding.blame, index, names, *counts)?,
         }),
         Outcome::GaveUp { counts } => Ok(Output {
-            status: Status::GaveUp,
+            answer: Answer::GaveUp,
             text: gave_up_text_in(alloc, form, index, *counts)?,
         }),
     }

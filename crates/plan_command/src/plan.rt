@@ -1,14 +1,12 @@
 // The output of a search over a folder's packages, in a given form.
-ghost use Rattle.std.specs.Prelude.{◌≡◌, ◌≢◌, IfOk, IsErrOf, Some};
+ghost use Rattle.std.specs.Prelude.{◌≡◌, IfOk, IsErrOf, Some};
 ghost use Rattle.outside_folder.specs.Calls.{Leaves};
 ghost use Rattle.outside_folder.specs.Files.{Files};
 ghost use Rattle.plan_task.specs.Task.{IsReady};
-ghost use Rattle.plan_command.specs.Output.{HasOutput};
 ghost use Rattle.plan_command.specs.Asked.{picking_of};
 ghost use Rattle.plan_command.specs.Meaning.{Means, MeansTask};
 ghost use Rattle.plan_command.specs.Run.{IsOutputOfPlan, IsPossibleOutput, IsOutputOfTask};
 
-use crate::Status;
 use crate::form::Form;
 use crate::output::{Output, halted, output_of_finding};
 use command_line::Options;
@@ -30,8 +28,6 @@ pub(crate) fn output_of_plan<F: Folder>(
     ensures observed { (files : Files) → F.tells folder.old ≡ Some files
         → IfOk result (IsOutputOfPlan form.now options files) }
     ensures form { IfOk result (IsPossibleOutput (picking_of options) options.minimize (λ own. own ≡ form.now)) }
-    ensures made { IfOk result (λ output. HasOutput output.status) }
-    ensures read { IfOk result (λ output. output.status ≢ Status.Usage) }
     ensures folder { Leaves F.tells F.faults folder.old folder.new (IsErrOf result Trouble.Failed) }
 {
     let picking = picking_of(&options);
@@ -64,8 +60,6 @@ pub(crate) fn planned(
     requires { IsReady task.now }
     ensures headline { IfOk result (MeansTask picking minimize form.now task.now) }
     ensures output { IfOk result (IsOutputOfTask picking minimize form.now task.now) }
-    ensures made { IfOk result (λ output. HasOutput output.status) }
-    ensures read { IfOk result (λ output. output.status ≢ Status.Usage) }
 {
     let finding = find_plan(alloc, picking, minimize, &task.index, &task.settings)?;
     output_of_finding(alloc, form, &task.settings.env, &task.index, &finding)

@@ -1,13 +1,11 @@
 // The command `replay`: a build of the plan at the events of a file.
-ghost use Rattle.std.specs.Prelude.{◌≡◌, ◌≢◌, IfOk, IsErrOf, Some};
+ghost use Rattle.std.specs.Prelude.{◌≡◌, IfOk, IsErrOf, Some};
 ghost use Rattle.outside_folder.specs.Calls.{Leaves};
 ghost use Rattle.outside_folder.specs.Files.{Files};
 ghost use Rattle.command_line.specs.declared.reading.Command.TheVariants.{Replay};
-ghost use Rattle.plan_command.specs.Output.{HasOutput};
 ghost use Rattle.plan_command.specs.Meaning.{MeansReplay};
 ghost use Rattle.plan_command.specs.Run.{IsOutputOfReplay, MayPrint};
 
-use crate::Status;
 use crate::form::Form;
 use crate::output::{Output, halted};
 use crate::plan::planned;
@@ -32,8 +30,6 @@ pub(crate) fn output_of_replay<F: Folder>(
     ensures observed { (files : Files) → F.tells folder.old ≡ Some files
         → IfOk result (IsOutputOfReplay options events.now slots files) }
     ensures form { IfOk result (MayPrint (Some (Replay options events.now slots))) }
-    ensures made { IfOk result (λ output. HasOutput output.status) }
-    ensures read { IfOk result (λ output. output.status ≢ Status.Usage) }
     ensures folder { Leaves F.tells F.faults folder.old folder.new (IsErrOf result Trouble.Failed) }
 {
     let task = match read_task(alloc, options, folder) {

@@ -1,6 +1,8 @@
 // How a run ends, and its exit status.
 ghost use Rattle.std.specs.Prelude.{◌≡◌};
-ghost use Rattle.plan_command.specs.Status.{number_of_status};
+ghost use Rattle.plan_command.specs.Status.{number_of_status, status_of};
+
+use crate::Answer;
 
 /// How a run ended.
 #[derive(Clone, Copy, Debug, PartialEq, Eq)]
@@ -20,6 +22,21 @@ pub enum Status {
     NoMemory,
     /// The words have no reading; the usage line was printed.
     Usage,
+}
+
+impl Status {
+    /// The status of a run that wrote its whole output, by the output's answer.
+    pub fn of(answer: Answer) -> Status
+        ensures { result ≡ status_of answer }
+    {
+        match answer {
+            Answer::Planned => Status::Planned,
+            Answer::NoPlan => Status::NoPlan,
+            Answer::GaveUp => Status::GaveUp,
+            Answer::Refused => Status::Refused,
+            Answer::Usage => Status::Usage,
+        }
+    }
 }
 
 /// The program's exit status.

@@ -2,6 +2,7 @@ use Rattle.std.proofs.Common.{Some, None, sym, ap, ◌∙◌, if◌then◌else�
 use Rattle.command_line.specs.Reading.{reading}
 use Rattle.plan_search.specs.declared.search.Picking.TheVariants.{Least, MostMet}
 use Rattle.plan_command.proofs.Buildable.{in-order}
+use Rattle.plan_command.proofs.NoUsage.{no-usage}
 use Rattle.plan_command.proofs.Words.{picked-so, read-for, text-for, told-for}
 use Rattle.plan_command.proofs.command.run.Goals as goal
 
@@ -45,3 +46,7 @@ returns-in-Ok-clause-generated g c = λ number limit asked. c.perform.ensures.ge
 
 pub returns-in-Ok-clause-folder_untouched : goal.returns-in-Ok-clause-folder_untouched
 returns-in-Ok-clause-folder_untouched g c = λ number limit asked. c.perform.ensures.folder_untouched number limit (cc (sym c.in-Ok.ensures.command ∙ asked))
+
+-- a command's output isn't the usage line
+pub returns-in-Ok-clause-usage : goal.returns-in-Ok-clause-usage
+returns-in-Ok-clause-usage g c = λ e. absurd (no-usage c.in-Ok.command _ _ _ c.perform.ensures.one_text e)
