@@ -42,6 +42,13 @@ pub(crate) enum Form {
     Replay { slots: u32, events: List<JobEvent> },
 }
 
+/// An index, and the names behind its numbers.
+#[derive(Drop)]
+pub(crate) struct NamedIndex<'a> {
+    pub index: &'a Index,
+    pub names: &'a Names,
+}
+
 /// The form that the options choose.
 pub(crate) fn form_of(options: &Options) -> Form
     ensures { result ≡ form_of options.now }
@@ -59,15 +66,17 @@ pub(crate) fn plan_text_in(
     form: &Form,
     env: &Env,
     trail: &List<Choice>,
-    index: &Index,
-    names: &Names,
+    named: &NamedIndex<'_>,
     counts: Counts,
 ) -> Result<Text, NoMemory>
-    requires sound { IsSound env.now index.now }
+    requires sound { IsSound env.now named.now.index.now }
     requires new { AreNew trail.now }
-    ensures { IfOk result (IsTextOfPlan form.now env.now index.now names.now trail.now counts) }
+    ensures { IfOk result (IsTextOfPlan form.now env.now named.now.index.now named.now.names.now trail.now
+        counts) }
 {
     some_plan();
+    let index = named.index;
+    let names = named.names;
     match form {
         Form::Lines => {
             let nodes = elaborate(alloc, trail.as_slice(), index, names, env)?;
@@ -79,7 +88,7 @@ pub(crate) fn plan_text_in(
         }
         Form::Summary(number) => {
             let nodes = elaborate(alloc, trail.as_slice(), index, names, env)?;
-            summary_of(alloc, *number, trail, index, names, &nodes, counts)
+            summary_of(alloc, *number, trail, &nodes, named, counts)
         }
         Form::Freeze(before) => frozen_text(alloc, before, trail, index, names),
         Form::Replay { slots, events } => {
@@ -94,15 +103,14 @@ fn summary_of(
     alloc: Global,
     number: u32,
     trail: &List<Choice>,
-    index: &Index,
-    names: &Names,
     nodes: &List<PlanNode>,
+    named: &NamedIndex<'_>,
     counts: Counts,
 ) -> Result<Text, NoMemory>
     ensures { IfOk result (λ summary. summary ≡ summary_of number trail.now nodes.now counts
-        (plan_text index.now names.now trail.now nodes.now counts)) }
+        (plan_text named.now.index.now named.now.names.now trail.now nodes.now counts)) }
 {
-    let text = text_of_plan(alloc, trail, index, names, nodes, counts)?;
+    let text = text_of_plan(alloc, trail, named.index, named.names, nodes, counts)?;
     let digest = hex::encode(alloc, Sha256::digest(text.as_bytes()))?;
     let choices = trail.len();
     let nodes = nodes.len();
@@ -119,23 +127,23 @@ fn is_json(form: &Form) -> bool
     }
 }
 
+/// The text of a conflict with its blame.
 pub(crate) fn conflict_text_in(
     alloc: Global,
     form: &Form,
     set: &ConflictSet,
     blame: &Blame,
-    index: &Index,
-    names: &Names,
+    named: &NamedIndex<'_>,
     counts: Counts,
 ) -> Result<Text, NoMemory>
-    ensures { IfOk result (λ text. text ≡ conflict_text_in form.now index.now names.now set.now blame.now counts) }
+    ensures { IfOk result (λ text. text ≡ conflict_text_in form.now named.now.index.now named.now.names.now
+        set.now blame.now counts) }
 {
+    let json = is_json(form);
     match blame {
-        Blame::Unasked => whole_text(alloc, is_json(form), set, index, names, counts),
-        Blame::Shrunk(shrunk) => { shrunk_text(alloc, is_json(form), shrunk, index, names, counts) }
-        Blame::TooLong(spent) => {
-            not_shrunk_text(alloc, is_json(form), set, *spent, index, names, counts)
-        }
+        Blame::Unasked => whole_text(alloc, json, set, named, counts),
+        Blame::Shrunk(shrunk) => shrunk_text(alloc, json, shrunk, named, counts),
+        Blame::TooLong(spent) => not_shrunk_text(alloc, json, set, *spent, named, counts),
     }
 }
 
@@ -143,16 +151,16 @@ fn whole_text(
     alloc: Global,
     json: bool,
     set: &ConflictSet,
-    index: &Index,
-    names: &Names,
+    named: &NamedIndex<'_>,
     counts: Counts,
 ) -> Result<Text, NoMemory>
-    ensures { IfOk result (λ text. text ≡ unshrunk_text_in json index.now names.now set.now counts) }
+    ensures { IfOk result (λ text. text ≡ unshrunk_text_in json named.now.index.now named.now.names.now set.now
+        counts) }
 {
     if json {
-        json_of_conflict(alloc, set, index, names, counts)
+        json_of_conflict(alloc, set, named.index, named.names, counts)
     } else {
-        text_of_conflict(alloc, set, index, names, counts)
+        text_of_conflict(alloc, set, named.index, named.names, counts)
     }
 }
 
@@ -160,13 +168,14 @@ fn shrunk_text(
     alloc: Global,
     json: bool,
     shrunk: &Shrunk,
-    index: &Index,
-    names: &Names,
+    named: &NamedIndex<'_>,
     counts: Counts,
 ) -> Result<Text, NoMemory>
-    ensures { IfOk result (λ text. text
-        ≡ shrunk_text_in json index.now names.now shrunk.now.set shrunk.now.maps counts) }
+    ensures { IfOk result (λ text. text ≡ shrunk_text_in json named.now.index.now named.now.names.now
+        shrunk.now.set shrunk.now.maps counts) }
 {
+    let index = named.index;
+    let names = named.names;
     if json {
         json_of_shrunk(alloc, &shrunk.set, &shrunk.maps, index, names, counts)
     } else {
@@ -179,19 +188,20 @@ fn not_shrunk_text(
     json: bool,
     set: &ConflictSet,
     spent: u64,
-    index: &Index,
-    names: &Names,
+    named: &NamedIndex<'_>,
     counts: Counts,
 ) -> Result<Text, NoMemory>
-    ensures { IfOk result (λ text. text ≡ not_shrunk_text_in json index.now names.now set.now spent counts) }
+    ensures { IfOk result (λ text. text ≡ not_shrunk_text_in json named.now.index.now named.now.names.now set.now
+        spent counts) }
 {
     if json {
-        json_of_not_shrunk(alloc, set, spent, index, names, counts)
+        json_of_not_shrunk(alloc, set, spent, named.index, named.names, counts)
     } else {
-        text_of_not_shrunk(alloc, set, spent, index, names, counts)
+        text_of_not_shrunk(alloc, set, spent, named.index, named.names, counts)
     }
 }
 
+/// The text of a search that gave up.
 pub(crate) fn gave_up_text_in(
     alloc: Global,
     form: &Form,

@@ -9,7 +9,7 @@ ghost use Rattle.choice_problem.specs.declared.problem.Choice.{Choice as TheChoi
 ghost use Rattle.plan_command.specs.Output.{IsOutputOfOutcome, refused};
 
 use crate::Answer;
-use crate::form::{Form, conflict_text_in, gave_up_text_in, plan_text_in};
+use crate::form::{Form, NamedIndex, conflict_text_in, gave_up_text_in, plan_text_in};
 use choice_problem::Outcome;
 use outside_folder::Trouble;
 use plan_print::text_of_refusal;
@@ -61,14 +61,15 @@ pub(crate) fn output_of_finding(
         finding.now.outcome) }
 {
     let names = &finding.names;
+    let named = NamedIndex { index, names };
     match &finding.outcome {
         Outcome::Found { trail, counts } => Ok(Output {
             answer: Answer::Planned,
-            text: plan_text_in(alloc, form, env, trail, index, names, *counts)?,
+            text: plan_text_in(alloc, form, env, trail, &named, *counts)?,
         }),
         Outcome::NoPlan { set, counts } => Ok(Output {
             answer: Answer::NoPlan,
-            text: conflict_text_in(alloc, form, set, &finding.blame, index, names, *counts)?,
+            text: conflict_text_in(alloc, form, set, &finding.blame, &named, *counts)?,
         }),
         Outcome::GaveUp { counts } => Ok(Output {
             answer: Answer::GaveUp,

@@ -9,8 +9,8 @@ use Rattle.plan_command.proofs.form.plan_text_in.Goals as goal
 -- no node is printed, and there are some
 pub returns-in-Freeze : goal.returns-in-Freeze
 returns-in-Freeze c =
-    let index = c.args.index.now in
-    let names = c.args.names.now in
+    let index = c.args.named.now.index.now in
+    let names = c.args.named.now.names.now in
     let trail = c.args.trail.now in
     let some = c.some_plan.ensures (selection_from index names c.args.env.now (value_in trail)) in
     IfOk-weaker c.frozen_text.result _ _
