@@ -1,5 +1,5 @@
 // The command `generate`: a plan of the folder generated from a number.
-ghost use Rattle.std.specs.Prelude.{◌≡◌, ◌≤◌, IfOk, Some};
+ghost use Rattle.std.specs.Prelude.{◌≤◌, IfOk, Some};
 ghost use Rattle.command_line.specs.declared.reading.Command.TheVariants.{Generate};
 ghost use Rattle.plan_command.specs.Meaning.{MeansGenerated};
 ghost use Rattle.plan_command.specs.Run.{IsOutputOfGenerate, MayPrint};

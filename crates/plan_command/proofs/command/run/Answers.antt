@@ -27,6 +27,10 @@ returns-in-Ok-clause-observed g c = λ files read.
     told-for words command c.in-Ok.ensures.command files _ _ _
     (c.perform.ensures.observed files (read-for words command c.in-Ok.ensures.command (g.F.Folder.tells c.args.folder.now) files read))
 
+pub returns-in-Err-Usage-clause-observed : goal.returns-in-Err-Usage-clause-observed
+returns-in-Err-Usage-clause-observed g c = λ files read.
+    told-for c.args.words.now None (c.in-Err-Usage.ensures.usage c.in-Err-Usage.field-0-is) files _ _ _ c.print_usage.ensures.prints
+
 pub returns-in-Ok-clause-one_text : goal.returns-in-Ok-clause-one_text
 returns-in-Ok-clause-one_text g c = text-for c.args.words.now (Some c.in-Ok.command) c.in-Ok.ensures.command _ _ _ c.perform.ensures.one_text
 

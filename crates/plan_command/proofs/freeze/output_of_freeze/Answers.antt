@@ -1,4 +1,4 @@
-use Rattle.std.proofs.Common.{◌≡◌, Bool, false, Err, refl, ap, subst, ◌∙◌}
+use Rattle.std.proofs.Common.{false, Err, refl, ap, subst, ◌∙◌}
 use Rattle.std.proofs.lemmas.Result.{IfOk-weaker}
 use Rattle.common_laws.specs.Small.{some_at}
 use Rattle.outside_folder.specs.Files.{Bytes}
@@ -11,7 +11,7 @@ use Rattle.plan_command.specs.declared.form.Form.TheVariants.{Freeze}
 use Rattle.plan_command.specs.Form.{frozen_form, old_freeze_text}
 use Rattle.plan_command.specs.Meaning.{MeansTask}
 use Rattle.plan_command.specs.Run.{IsOutputOfTask, of_refusal, of_task}
-use Rattle.plan_command.proofs.Outputs.{frozen-output, planned-means, refused-means, unfrozen-output}
+use Rattle.plan_command.proofs.Outputs.{frozen-output, planned-means, unfrozen-output}
 use Rattle.plan_command.proofs.freeze.output_of_freeze.Goals as goal
 
 pub returns-in_ok-planned-in-Ok-clause-meaning : goal.returns-in_ok-planned-in-Ok-clause-meaning
