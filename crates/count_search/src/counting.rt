@@ -109,9 +109,11 @@ impl Counting {
     // The first step for the variables of a set. It is undone when out of memory.
     fn prepare_all(&mut self, vars: &[Var], trail: &Trail) -> Result<(), NoMemory>
         requires { IsTrue (is_rising vars.now) }
-        ensures ok { OnOk result ((scores : Var → ℕ) → AreScored self.old.records.entries self.old.ranks.keys scores trail.now
+        ensures ok { OnOk result ((scores : Var → ℕ)
+            → AreScored self.old.records.entries self.old.ranks.keys scores trail.now
             → AreBetween self.new.records.entries self.new.ranks.keys scores (raised_all vars.now scores) trail.now) }
-        ensures err { OnErr result ((scores : Var → ℕ) → AreScored self.old.records.entries self.old.ranks.keys scores trail.now
+        ensures err { OnErr result ((scores : Var → ℕ)
+            → AreScored self.old.records.entries self.old.ranks.keys scores trail.now
             → AreScored self.new.records.entries self.new.ranks.keys scores trail.now) }
     {
         for place in 0..vars.len() {
@@ -129,7 +131,8 @@ impl Counting {
         requires rising { IsTrue (is_rising vars.now) }
         requires within { count ≤ length vars.now }
         ensures { (scores : Var → ℕ) (trail : List Choice)
-            → AreBetween self.old.records.entries self.old.ranks.keys scores (raised_all (take count vars.now) scores) trail
+            → AreBetween self.old.records.entries self.old.ranks.keys scores (raised_all (take count vars.now) scores)
+            trail
             → AreScored self.new.records.entries self.new.ranks.keys scores trail }
     {
         let mut left = count;

@@ -48,7 +48,8 @@ pub(crate) fn record_for(records: &mut Records, v: Var, trail: &Trail) -> Result
 pub(crate) fn count_one(records: &mut Records, v: Var) -> Option<Met>
     ensures was { result ≡ record_in records.old.entries v }
     ensures is { (w : Var) → record_in records.new.entries w
-        ≡ cond (same_var v w) (option_map with_one_more (record_in records.old.entries v)) (record_in records.old.entries w) }
+        ≡ cond (same_var v w) (option_map with_one_more (record_in records.old.entries v))
+        (record_in records.old.entries w) }
 {
     let met = records.get_mut(&v)?;
     let old = *met;
@@ -63,7 +64,8 @@ pub(crate) fn count_one(records: &mut Records, v: Var) -> Option<Met>
 pub(crate) fn mark(records: &mut Records, v: Var, chosen: bool) -> Option<Met>
     ensures was { result ≡ record_in records.old.entries v }
     ensures is { (w : Var) → record_in records.new.entries w
-        ≡ cond (same_var v w) (option_map (marked chosen) (record_in records.old.entries v)) (record_in records.old.entries w) }
+        ≡ cond (same_var v w) (option_map (marked chosen) (record_in records.old.entries v))
+        (record_in records.old.entries w) }
 {
     let met = records.get_mut(&v)?;
     let old = *met;
