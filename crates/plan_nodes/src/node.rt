@@ -1,8 +1,6 @@
 // A node: a component with its identifier and the identifiers of its needs.
-ghost use Rattle.std.specs.Prelude.{◌≡◌, IfOk};
 
-use plan_types::{List, NoMemory, Text, Version};
-use std::alloc::Global;
+use plan_types::{List, Text, Version};
 
 /// Whether a node is installed, and where it is built otherwise.
 #[derive(Clone, Copy, Debug, PartialEq, Eq)]
@@ -47,40 +45,4 @@ impl Drop for PlanNode {
             setups: _setups,
         } = self;
     }
-}
-
-impl PlanNode {
-    /// A deep copy of the node.
-    pub fn copy(&self, alloc: Global) -> Result<PlanNode, NoMemory>
-        ensures { IfOk result (λ copied. copied ≡ self.now) }
-    {
-        let name = self.name.copy()?;
-        let version = self.version.copy(alloc)?;
-        let component = self.component.copy()?;
-        let id = self.id.copy()?;
-        let libs = copied(alloc, &self.libs)?;
-        let tools = copied(alloc, &self.tools)?;
-        let setups = copied(alloc, &self.setups)?;
-        Ok(PlanNode {
-            kind: self.kind,
-            name,
-            version,
-            component,
-            id,
-            unbuildable: self.unbuildable,
-            libs,
-            tools,
-            setups,
-        })
-    }
-}
-
-fn copied(alloc: Global, texts: &List<Text>) -> Result<List<Text>, NoMemory>
-    ensures { IfOk result (λ copied. copied ≡ texts.now) }
-{
-    let mut copied = List::new(alloc);
-    for text in texts.as_slice() {
-        copied.push(text.copy()?)?;
-    }
-    Ok(copied)
 }
