@@ -1,13 +1,12 @@
 -- Partial maps from variables to numbers.
 use Rattle.std.specs.Prelude.{ℕ, cond, List, Option, Some, None}
 use Rattle.std.specs.Map.{lookup}
-use Rattle.std.specs.BTreeMap.{is_at}
 use Rattle.qualified_goals.specs.declared.variable.Var.{Var}
-use Rattle.qualified_goals.specs.Variable.{var_cmp, same_var}
+use Rattle.qualified_goals.specs.Variable.{same_var}
 
 -- the entry of a variable
 abbrev pub entry : List (Var × ℕ) → Var → Option ℕ
-entry entries v = lookup (is_at (var_cmp v)) entries
+entry entries v = lookup (same_var v) entries
 
 -- the map with this entry of a variable
 abbrev pub with_entry : Var → ℕ → (Var → Option ℕ) → Var → Option ℕ

@@ -4,14 +4,14 @@ ghost use Rattle.qualified_goals.specs.declared.variable.Var.{Var};
 ghost use Rattle.choice_problem.specs.Table.{entry, with_entry, without_entry};
 
 use crate::Var;
+use indexmap::IndexMap;
 use plan_types::NoMemory;
 use std::alloc::Global;
-use std::collections::BTreeMap;
 use std::marker::Model;
 
 /// A partial map from variables to numbers, seen as its entries.
 pub struct Table {
-    entries: BTreeMap<Var, u64>,
+    entries: IndexMap<Var, u64>,
 }
 
 // Explicit, so that it is proved once: a derived one is expanded at each exit.
@@ -35,7 +35,7 @@ impl Table {
         ensures { (v : Var) → entry result v ≡ None }
     {
         Table {
-            entries: BTreeMap::new(alloc),
+            entries: IndexMap::new(alloc),
         }
     }
 
@@ -65,6 +65,6 @@ impl Table {
     pub fn remove(&mut self, v: Var)
         ensures { (w : Var) → entry self.new w ≡ without_entry v (entry self.old) w }
     {
-        let _ = self.entries.remove(&v);
+        let _ = self.entries.swap_remove(&v);
     }
 }
