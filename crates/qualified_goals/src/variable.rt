@@ -29,11 +29,11 @@ pub struct Var {
     pub part: Part,
 }
 
-/// Whether two variables are equal, by the goal order.
+/// Whether two variables are equal.
 pub fn is_same(v: Var, w: Var) -> bool
     ensures { result ≡ same_var v w }
 {
-    v.cmp(&w).is_eq()
+    v == w
 }
 
 /// Whether a variable is before another in goal order.
