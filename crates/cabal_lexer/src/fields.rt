@@ -1,5 +1,5 @@
 // Fields and their values.
-ghost use Rattle.std.specs.Prelude.{◌≡◌, ◌≤◌, ◌++◌, ◌∷◌, ℕ, Bool, false, not, drop, IfOk, IfErr, length};
+ghost use Rattle.std.specs.Prelude.{◌≡◌, ◌≤◌, ◌++◌, ◌∷◌, ℕ, Bool, false, not, drop, IfOk, IfErr, OnOk, length};
 ghost use Rattle.std.specs.List.{prefix_len};
 ghost use Rattle.cabal_lexer.specs.Opening.{field, braced_field, lower_case};
 ghost use Rattle.cabal_lexer.specs.Layout.{ends, Begins, Fails, IsElement, At, first_value, texts};
@@ -79,26 +79,26 @@ pub fn in_lower_case(alloc: Global, name: &str) -> Result<Text, NoMemory>
     ensures { IfOk result (λ text. text ≡ lower_case name.now) }
 {
     let name = name.to_ascii_lowercase(alloc)?;
-    Text::from_str(alloc, name.as_str())
+    Ok(Text::from_string(name))
 }
 
 /// The values of a field: the first one, unless it is empty, and the texts of the lines.
 fn values_of(alloc: Global, first: &str, lines: &[Line]) -> Result<List<Text>, NoMemory>
     ensures { IfOk result (λ values. values ≡ first_value first.now ++ texts lines.now) }
 {
-    let mut values = first_value(alloc, first)?;
+    let mut values = List::with_room(alloc, lines.len().saturating_add(1))?;
+    push_first(alloc, &mut values, first)?;
     for line in lines {
         values.push(Text::from_str(alloc, line.text())?)?;
     }
     Ok(values)
 }
 
-fn first_value(alloc: Global, first: &str) -> Result<List<Text>, NoMemory>
-    ensures { IfOk result (λ values. values ≡ first_value first.now) }
+fn push_first(alloc: Global, values: &mut List<Text>, first: &str) -> Result<(), NoMemory>
+    ensures { OnOk result (values.new ≡ values.old ++ first_value first.now) }
 {
-    let mut values = List::new(alloc);
     if !first.is_empty() {
         values.push(Text::from_str(alloc, first)?)?;
     }
-    Ok(values)
+    Ok(())
 }
