@@ -9,12 +9,12 @@ ghost use Rattle.flatten.specs.Ways.{number_of_both, paths_of_both, ways_of};
 ghost use Rattle.plan_types.specs.Guarded.{of_group};
 ghost use Rattle.impossible_conditions.specs.Outlook.{IsOutlookAt};
 
-use crate::ways::{Ways, ways_of};
+use crate::ways::{Ways, one_way, ways_of};
 use conditionals::{MOST_PATHS, joined_paths};
 use impossible_conditions::{Outlook, outlooks};
 use plan_types::{
-    Cause, CompKind, Component, Dep, DepGroup, Description, Env, Fault, FlagSet, FlatDep, List,
-    Literal, NoMemory, PartName, Shared,
+    Cause, CompKind, Component, Cond, Dep, DepGroup, Description, Env, Fault, FlagSet, FlatDep,
+    List, Literal, NoMemory, PartName, Shared,
 };
 use std::alloc::Global;
 
@@ -70,12 +70,17 @@ fn has_others(group: &DepGroup) -> bool
     group.deps.as_slice().iter().any(|dep| !dep.get().internal)
 }
 
+// A component without `buildable: False` needs no outlooks for it.
 fn ways_to_build(alloc: Global, component: &Component, env: &Env) -> Result<Ways, NoMemory>
     ensures { IfOk result (λ ways. ways ≡ ways_of env.now component.now.buildable) }
 {
+    let cond = component.buildable.get();
+    if matches!(cond, Cond::Always) {
+        return one_way(alloc, env);
+    }
     let (conds, place) = component.buildable.place();
     let outlooks = outlooks(alloc, conds, env)?;
-    ways_of(alloc, component.buildable.get(), &outlooks, place, env)
+    ways_of(alloc, cond, &outlooks, place, env)
 }
 
 // The demands of a component. The outlooks of all conditions are computed once.
