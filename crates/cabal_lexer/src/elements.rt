@@ -9,6 +9,13 @@ use crate::opening::{Opening, opening_at};
 use plan_types::{Cause, Element, Fault, List, Text};
 use std::alloc::Global;
 
+/// A section's name as written, and what stands behind it.
+#[derive(Drop)]
+struct Heading<'a> {
+    name: &'a str,
+    args: &'a str,
+}
+
 /// Parses items from the first line on. Returns them with the number of lines that they take.
 #[cycle(layout)]
 pub fn read_items(
@@ -79,10 +86,10 @@ fn read_element(
         }
         Ok(Opening::BracedField { name }) => read_braced_field(alloc, line, name, more),
         Ok(Opening::Section { name, args }) => {
-            read_section(alloc, line, name, args, more, depth, braced)
+            read_section(alloc, line, &Heading { name, args }, more, depth, braced)
         }
         Ok(Opening::BracedSection { name, args }) => {
-            read_braced_section(alloc, line, name, args, more, depth)
+            read_braced_section(alloc, line, &Heading { name, args }, more, depth)
         }
     }
 }
@@ -92,25 +99,25 @@ fn read_element(
 fn read_section(
     alloc: Global,
     line: &Line,
-    name: &str,
-    args: &str,
+    heading: &Heading<'_>,
     more: &[Line],
     depth: u32,
     braced: bool,
 ) -> Result<(Element, usize), Fault>
     requires { depth ≤ 64 }
-    ensures ok { IfOk result (λ r. Begins depth line.now (section (lower_case name.now) args.now)
+    ensures ok { IfOk result (λ r.
+        Begins depth line.now (section (lower_case heading.now.name.now) heading.now.args.now)
         → IsElement depth braced line.now more.now r.0 (drop r.1 more.now)) }
     ensures taken { IfOk result (λ r. r.1 ≤ length more.now) }
     ensures err { (bound : ℕ) → ends bound braced line.now ≡ false
-        → Begins depth line.now (section (lower_case name.now) args.now) →
+        → Begins depth line.now (section (lower_case heading.now.name.now) heading.now.args.now) →
         IfErr result (At (Fails bound depth braced (line.now ∷ more.now))) }
 {
     let (items, count) = read_items(alloc, more, line.indent() + 1, depth + 1, braced)?;
     let section = Element::Section {
         line: line.number(),
-        name: in_lower_case(alloc, name)?,
-        args: Text::from_str(alloc, args)?,
+        name: in_lower_case(alloc, heading.name)?,
+        args: Text::from_str(alloc, heading.args)?,
         items,
     };
     Ok((section, count))
@@ -121,18 +128,17 @@ fn read_section(
 fn read_braced_section(
     alloc: Global,
     line: &Line,
-    name: &str,
-    args: &str,
+    heading: &Heading<'_>,
     more: &[Line],
     depth: u32,
 ) -> Result<(Element, usize), Fault>
     requires { depth ≤ 64 }
     ensures ok { IfOk result (λ r. (braced : Bool)
-        → Begins depth line.now (braced_section (lower_case name.now) args.now)
+        → Begins depth line.now (braced_section (lower_case heading.now.name.now) heading.now.args.now)
         → IsElement depth braced line.now more.now r.0 (drop r.1 more.now)) }
     ensures taken { IfOk result (λ r. r.1 ≤ length more.now) }
     ensures err { (bound : ℕ) (braced : Bool) → ends bound braced line.now ≡ false
-        → Begins depth line.now (braced_section (lower_case name.now) args.now) →
+        → Begins depth line.now (braced_section (lower_case heading.now.name.now) heading.now.args.now) →
         IfErr result (At (Fails bound depth braced (line.now ∷ more.now))) }
 {
     let (items, count) = read_items(alloc, more, 0, depth + 1, true)?;
@@ -144,8 +150,8 @@ fn read_braced_section(
     }
     let section = Element::Section {
         line: line.number(),
-        name: in_lower_case(alloc, name)?,
-        args: Text::from_str(alloc, args)?,
+        name: in_lower_case(alloc, heading.name)?,
+        args: Text::from_str(alloc, heading.args)?,
         items,
     };
     Ok((section, count + 1))

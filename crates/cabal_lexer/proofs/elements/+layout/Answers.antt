@@ -15,13 +15,13 @@ pub read_braced_section-returns-then-count-more-clause-err : goal.read_braced_se
 read_braced_section-returns-then-count-more-clause-err t c = λ bound braced e b. (
   c.args.line.now,
   c.number.ensures,
-  open_section bound c.args.depth braced c.args.line.now c.args.more.now (lower_case c.args.name.now) c.args.args.now c.in_ok-items.items c.in_ok-items.count
+  open_section bound c.args.depth braced c.args.line.now c.args.more.now (lower_case c.args.heading.now.name.now) c.args.heading.now.args.now c.in_ok-items.items c.in_ok-items.count
       c.in_ok-items.ensures.cut (omega arith) e b,
 )
 
 pub read_braced_section-returns-clause-ok : goal.read_braced_section-returns-clause-ok
 read_braced_section-returns-clause-ok t c = λ braced b.
-    made_braced_section c.args.depth braced c.args.line.now c.args.more.now _ _ _ c.number-2.ensures (lower_case c.args.name.now) c.args.args.now c.in_ok-items.items c.in_ok-items.count
+    made_braced_section c.args.depth braced c.args.line.now c.args.more.now _ _ _ c.number-2.ensures (lower_case c.args.heading.now.name.now) c.args.heading.now.args.now c.in_ok-items.items c.in_ok-items.count
     c.in_ok-in_lower_case.ensures c.in_ok-from_str.ensures c.in_ok-items.ensures.cut (omega (arith, c.in_ok-items.ensures.taken)) b
 
 pub read_section-returns-in_err-items-clause-err : goal.read_section-returns-in_err-items-clause-err
@@ -32,7 +32,7 @@ read_section-returns-in_err-items-clause-err t c = λ bound e b.
 
 pub read_section-returns-clause-ok : goal.read_section-returns-clause-ok
 read_section-returns-clause-ok t c = λ b.
-    made_section c.args.depth c.args.braced c.args.line.now c.args.more.now _ _ _ c.number.ensures (lower_case c.args.name.now) c.args.args.now c.in_ok-items.items c.indent.result _
+    made_section c.args.depth c.args.braced c.args.line.now c.args.more.now _ _ _ c.number.ensures (lower_case c.args.heading.now.name.now) c.args.heading.now.args.now c.in_ok-items.items c.indent.result _
     c.in_ok-in_lower_case.ensures c.in_ok-from_str.ensures c.indent.ensures.value c.in_ok-items.ensures.cut b
 
 pub read_element-returns-in-Err-clause-err : goal.read_element-returns-in-Err-clause-err
