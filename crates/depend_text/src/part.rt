@@ -144,7 +144,8 @@ impl<'a> EntryKind for Listed<'a> {
 
     ghost stands = { λ row. Library row.«package».now };
 
-    ghost fails = { λ row part cause. (cause ≡ BadDepend) × ((lib : LibName) → Library row.«package».now part lib → ⊥) };
+    ghost fails = { λ row part cause. (cause ≡ BadDepend)
+        × ((lib : LibName) → Library row.«package».now part lib → ⊥) };
 
     fn read(&self, alloc: Global, part: &[u8]) -> Result<LibName, TextFault> {
         let (name, rest) = component_run(unblank(part));
