@@ -1,5 +1,5 @@
 // Sets of variables, as conflicts have them.
-ghost use Rattle.std.specs.Prelude.{◌≡◌, [], IfOk, OnOk, IsTrue, if◌then◌else◌};
+ghost use Rattle.std.specs.Prelude.{◌≡◌, ◌++◌, [], IfOk, OnOk, IsTrue, if◌then◌else◌};
 ghost use Rattle.qualified_goals.specs.Variable.{is_before};
 ghost use Rattle.choice_problem.specs.ConflictSet.{is_rising, has, with_var, without, set_of, union, front_of, behind};
 
@@ -8,6 +8,9 @@ use crate::{Var, is_before, is_same};
 use plan_types::{List, NoMemory};
 use std::alloc::Global;
 use std::marker::Model;
+
+// A set of more variables is merged with another, front by front.
+const FEW: usize = 8;
 
 /// A set of variables, seen as the list of them in goal order, each once.
 #[derive(Debug, Drop, PartialEq, Eq)]
@@ -64,12 +67,18 @@ impl ConflictSet {
         stands_at(vars, place_of(vars, v), v)
     }
 
-    /// The union of two sets.
+    /// The union of two sets. The few variables of a small set are added to a copy of the other.
     pub fn union(&self, alloc: Global, other: &ConflictSet) -> Result<ConflictSet, NoMemory>
         ensures { IfOk result (λ both. both ≡ union self.now other.now) }
     {
+        let (few, many) = by_size(self.vars.as_slice(), other.vars.as_slice());
+        let both = if few.len() > FEW {
+            merged(alloc, few, many)?
+        } else {
+            with_few(alloc, few, many)?
+        };
         Ok(ConflictSet {
-            vars: List::from_vec(merged(alloc, self.vars.as_slice(), other.vars.as_slice())?),
+            vars: List::from_vec(both),
         })
     }
 
@@ -123,12 +132,48 @@ fn rising(alloc: Global, vars: &[Var]) -> Result<Vec<Var>, NoMemory>
     ensures rising { IfOk result (λ set. IsTrue (is_rising set.items)) }
 {
     let mut set = Vec::new(alloc);
+    add_all(&mut set, vars)?;
+    Ok(set)
+}
+
+fn add_all(set: &mut Vec<Var>, vars: &[Var]) -> Result<(), NoMemory>
+    requires { IsTrue (is_rising set.old.items) }
+    ensures set { OnOk result (set.new.items ≡ set_of (vars.now ++ set.old.items)) }
+    ensures rising { OnOk result (IsTrue (is_rising set.new.items)) }
+{
     let mut place = vars.len();
     while place > 0 {
         place -= 1;
-        add(&mut set, vars[place])?;
+        add(set, vars[place])?;
     }
-    Ok(set)
+    Ok(())
+}
+
+// Two rising lists, the shorter one first.
+fn by_size<'a>(left: &'a [Var], right: &'a [Var]) -> (&'a [Var], &'a [Var])
+    requires left { IsTrue (is_rising left.now) }
+    requires right { IsTrue (is_rising right.now) }
+    ensures both { union result.0.now result.1.now ≡ union left.now right.now }
+    ensures few { IsTrue (is_rising result.0.now) }
+    ensures many { IsTrue (is_rising result.1.now) }
+{
+    if left.len() > right.len() {
+        (right, left)
+    } else {
+        (left, right)
+    }
+}
+
+// The union of two rising lists. Each of the few costs a search, and a move of what is behind it.
+fn with_few(alloc: Global, few: &[Var], many: &[Var]) -> Result<Vec<Var>, NoMemory>
+    requires { IsTrue (is_rising many.now) }
+    ensures both { IfOk result (λ both. both.items ≡ union few.now many.now) }
+    ensures rising { IfOk result (λ both. IsTrue (is_rising both.items)) }
+{
+    let mut both = Vec::with_capacity(alloc, few.len().saturating_add(many.len()))?;
+    both.extend_from_slice(many)?;
+    add_all(&mut both, few)?;
+    Ok(both)
 }
 
 // The union of two rising lists, merged by the lesser front.
