@@ -1,5 +1,6 @@
 pub mod Found
 pub mod Orders
+pub mod Parts
 pub mod Picks
 pub mod Scores
 pub mod Ends

@@ -1,19 +1,22 @@
 -- The order of ranks, and the members of a set in that order.
-use Rattle.std.proofs.Common.{◌≡◌, ℕ, ◌<◌, Bool, true, false, cond, ◌||◌, List, [], ◌∷◌, Some, None, refl, sym, ap, ◌∙◌, subst, inl, inr, ◌⊎◌, nat_lt, ltb-true, rules, ◌==◌, map, find}
+use Rattle.std.proofs.Common.{◌≡◌, ℕ, ◌<◌, Bool, true, false, cond, ◌||◌, List, [], ◌∷◌, Some, None, refl, sym, ap, ◌∙◌, subst, inl, inr, ◌⊎◌, nat_lt, ltb-true, rules, ◌==◌, find}
 use Rattle.std.specs.List.{list_any, AllByRecursion}
 use Rattle.std.specs.List.Sorted.{IsStrictlySortedBy}
-use Rattle.std.specs.Ordering.{nat_cmp, ordering_then, is_eq, is_lt}
+use Rattle.std.specs.Ordering.{nat_cmp, ordering_then, ordering_reverse, is_eq, is_lt}
+use Rattle.std.specs.Prelude.{option_to_list, Option}
+use Rattle.std.specs.Cmp.{IsTotalOrder}
 use Rattle.std.specs.declared.cmp.Ordering.{Ordering}
 use Rattle.std.specs.declared.cmp.Ordering.TheVariants.{Less, Equal, Greater}
 use Rattle.std.proofs.lemmas.Bool.{false≢true, or_left, or_right}
-use Rattle.std.proofs.lemmas.Cmp.{nat_cmp_total, tied_itself}
+use Rattle.std.proofs.lemmas.Cmp.{nat_cmp_total, on_total, then_total, tied_itself}
 use Rattle.std.proofs.lemmas.Map.Lookups.{exact_unsigned}
 use Rattle.qualified_goals.specs.declared.variable.Var.{Var}
 use Rattle.qualified_goals.specs.Variable.{var_cmp}
+use Rattle.qualified_goals.proofs.GoalOrder.{var_cmp_total}
 use Rattle.qualified_goals.specs.SameVariable.{same_var-is, same_var-refl}
-use Rattle.common_laws.specs.Small.{is-equal, second-equal}
+use Rattle.common_laws.specs.Small.{is-equal, is-less, second-equal}
 use Rattle.count_search.specs.declared.ranks.Rank.{Rank}
-use Rattle.count_search.specs.Ranks.{rank_cmp, same_rank, has_rank}
+use Rattle.count_search.specs.Ranks.{rank_cmp, same_rank, has_rank, lesser, passing, IsFirst, IsFirstRank}
 use Rattle.count_search.specs.contracts.ranks.RankOrd.TheImpl.{cmp-value}
 
 -- two tests that imply each other are equal
@@ -94,37 +97,25 @@ less-than r (x ∷ ranks) q h k =
       | inr later ↦ less-than r ranks q h.1 later
     ]
 
--- a member with the variable found, before all others that pass
-pub record IsFirstRank (test : Var → Bool) (ranks : List Rank) (v : Var) : Type 0 where
-  pub rank : Rank
-  pub member : has_rank ranks rank ≡ true
-  pub var_is : rank.var ≡ v
-  pub passes : test v ≡ true
-  pub first : (q : Rank) → has_rank ranks q ≡ true → test q.var ≡ true → (rank ≡ q) ⊎ (rank_cmp rank q ≡ Less)
-
-pub first-rank : (test : Var → Bool) (ranks : List Rank) (v : Var) → IsStrictlySortedBy rank_cmp ranks → find test (map (λ r. r.var) ranks) ≡ Some v → IsFirstRank test ranks v
+pub first-rank : (test : Var → Bool) (ranks : List Rank) (rank : Rank) → IsStrictlySortedBy rank_cmp ranks → find (λ r. test r.var) ranks ≡ Some rank → IsFirstRank test (has_rank ranks) rank
 unfolding IsStrictlySortedBy
-first-rank test [] v sorted h = absurd (cc h)
-first-rank test (r ∷ ranks) v sorted h =
-    elim (test r.var) as (λ b. test r.var ≡ b → cond b (Some r.var) (find test (map (λ q. q.var) ranks)) ≡ Some v → IsFirstRank test (r ∷ ranks) v) [
+first-rank test [] rank sorted h = absurd (cc h)
+first-rank test (r ∷ ranks) rank sorted h =
+    elim (test r.var) as (λ b. test r.var ≡ b → cond b (Some r) (find (λ q. test q.var) ranks) ≡ Some rank → IsFirstRank test (has_rank (r ∷ ranks)) rank) [
       | true ↦ λ e k.
-          let same : r.var ≡ v = cc k in
+          let same : r ≡ rank = cc k in
           record {
-            rank = r;
-            member = or_left (same_rank r r) (has_rank ranks r) (same-rank-refl r);
-            var_is = same;
-            passes = subst (λ w. test w ≡ true) same e;
+            member = or_left (same_rank rank r) (has_rank ranks rank) (ap (same_rank rank) same ∙ same-rank-refl rank);
+            passes = subst (λ (x : Rank). test x.var ≡ true) same e;
             first = λ q member pass. elim (either (same_rank q r) (has_rank ranks q) member) [
-              | inl equal ↦ inl (sym (same-rank-is q r equal))
-              | inr later ↦ inr (less-than r ranks q sorted.0 later)
+              | inl equal ↦ inl (sym same ∙ sym (same-rank-is q r equal))
+              | inr later ↦ inr (subst (λ (x : Rank). rank_cmp x q ≡ Less) same (less-than r ranks q sorted.0 later))
             ];
           }
       | false ↦ λ e k.
-          let more = first-rank test ranks v sorted.1 k in
+          let more = first-rank test ranks rank sorted.1 k in
           record {
-            rank = more.rank;
-            member = or_right (same_rank more.rank r) (has_rank ranks more.rank) more.member;
-            var_is = more.var_is;
+            member = or_right (same_rank rank r) (has_rank ranks rank) more.member;
             passes = more.passes;
             first = λ q member pass. elim (either (same_rank q r) (has_rank ranks q) member) [
               | inl equal ↦ absurd (false≢true (sym e ∙ ap (λ (x : Rank). test x.var) (sym (same-rank-is q r equal)) ∙ pass))
@@ -133,13 +124,86 @@ first-rank test (r ∷ ranks) v sorted h =
           }
     ] refl h
 
-pub none-first : (test : Var → Bool) (ranks : List Rank) → find test (map (λ r. r.var) ranks) ≡ None → (q : Rank) → has_rank ranks q ≡ true → test q.var ≡ false
+pub none-first : (test : Var → Bool) (ranks : List Rank) → find (λ r. test r.var) ranks ≡ None → (q : Rank) → has_rank ranks q ≡ true → test q.var ≡ false
 none-first test [] h q member = absurd (false≢true member)
 none-first test (r ∷ ranks) h q member =
-    elim (test r.var) as (λ b. test r.var ≡ b → cond b (Some r.var) (find test (map (λ x. x.var) ranks)) ≡ None → test q.var ≡ false) [
+    elim (test r.var) as (λ b. test r.var ≡ b → cond b (Some r) (find (λ x. test x.var) ranks) ≡ None → test q.var ≡ false) [
       | true ↦ λ e k. absurd (cc k)
       | false ↦ λ e k. elim (either (same_rank q r) (has_rank ranks q) member) [
         | inl equal ↦ ap (λ (x : Rank). test x.var) (same-rank-is q r equal) ∙ e
         | inr later ↦ none-first test ranks k q later
       ]
     ] refl h
+
+pub first-found : (test : Var → Bool) (ranks : List Rank) (o : Option Rank) → IsStrictlySortedBy rank_cmp ranks → o ≡ find (λ r. test r.var) ranks → IsFirst test (has_rank ranks) o
+first-found test ranks None sorted h = none-first test ranks (sym h)
+first-found test ranks (Some r) sorted h = first-rank test ranks r sorted (sym h)
+
+-- one rank alone
+pub first-passing : (test : Var → Bool) (held : Option Rank) → IsFirst test (has_rank (option_to_list held)) (passing test held)
+first-passing test None = λ q member. absurd (false≢true member)
+first-passing test (Some r) =
+    elim (test r.var) as (λ b. test r.var ≡ b → IsFirst test (has_rank (r ∷ [])) (cond b (Some r) None)) [
+      | true ↦ λ e. record {
+        member = or_left (same_rank r r) false (same-rank-refl r);
+        passes = e;
+        first = λ q member pass. elim (either (same_rank q r) false member) [
+          | inl equal ↦ inl (sym (same-rank-is q r equal))
+          | inr none ↦ absurd (false≢true none)
+        ];
+      }
+      | false ↦ λ e q member. elim (either (same_rank q r) false member) [
+        | inl equal ↦ ap (λ (x : Rank). test x.var) (same-rank-is q r equal) ∙ e
+        | inr none ↦ absurd (false≢true none)
+      ]
+    ] refl
+
+-- the first of two sets is the lesser one of their first
+
+rank_cmp_total : IsTotalOrder rank_cmp
+rank_cmp_total = then_total (on_total (λ (r : Rank). r.rest) nat_cmp_total) (on_total (λ (r : Rank). r.var) var_cmp_total)
+
+reverse-not : (o : Ordering) → is_lt (ordering_reverse o) ≡ false → (o ≡ Equal) ⊎ (o ≡ Less)
+reverse-not Less h = inr refl
+reverse-not Equal h = inl refl
+reverse-not Greater h = absurd (false≢true (sym h))
+
+not-before : (r q : Rank) → is_lt (rank_cmp q r) ≡ false → (r ≡ q) ⊎ (rank_cmp r q ≡ Less)
+not-before r q h =
+    elim (reverse-not (rank_cmp r q) (sym (ap is_lt (rank_cmp_total.antisymm q r)) ∙ h)) [
+      | inl e ↦ inl (same-rank-is r q (ap is_eq e))
+      | inr l ↦ inr l
+    ]
+
+at-most-trans : (x y z : Rank) → (x ≡ y) ⊎ (rank_cmp x y ≡ Less) → (y ≡ z) ⊎ (rank_cmp y z ≡ Less) → (x ≡ z) ⊎ (rank_cmp x z ≡ Less)
+at-most-trans x y z (inl e) k = subst (λ (w : Rank). (w ≡ z) ⊎ (rank_cmp w z ≡ Less)) (sym e) k
+at-most-trans x y z (inr l) (inl e) = inr (subst (λ (w : Rank). rank_cmp x w ≡ Less) e l)
+at-most-trans x y z (inr l) (inr m) = inr (rank_cmp_total.trans x y z l m)
+
+module _ (test : Var → Bool) (a b : Rank → Bool) where
+  abbrev both : Rank → Bool
+  both q = a q || b q
+
+  of-first : (r : Rank) → IsFirstRank test a r → ((q : Rank) → b q ≡ true → test q.var ≡ true → (r ≡ q) ⊎ (rank_cmp r q ≡ Less)) → IsFirstRank test both r
+  of-first r h rest = record {
+    member = or_left (a r) (b r) h.member;
+    passes = h.passes;
+    first = λ q member pass. elim (either (a q) (b q) member) [ inl k ↦ h.first q k pass | inr k ↦ rest q k pass ];
+  }
+
+  of-second : (r : Rank) → IsFirstRank test b r → ((q : Rank) → a q ≡ true → test q.var ≡ true → (r ≡ q) ⊎ (rank_cmp r q ≡ Less)) → IsFirstRank test both r
+  of-second r h rest = record {
+    member = or_right (a r) (b r) h.member;
+    passes = h.passes;
+    first = λ q member pass. elim (either (a q) (b q) member) [ inl k ↦ rest q k pass | inr k ↦ h.first q k pass ];
+  }
+
+  pub first-lesser : (first second : Option Rank) → IsFirst test a first → IsFirst test b second → IsFirst test both (lesser first second)
+  first-lesser None None h k = λ q member. elim (either (a q) (b q) member) [ inl l ↦ h q l | inr l ↦ k q l ]
+  first-lesser None (Some q) h k = of-second q k (λ x member pass. absurd (false≢true (sym (h x member) ∙ pass)))
+  first-lesser (Some r) None h k = of-first r h (λ x member pass. absurd (false≢true (sym (k x member) ∙ pass)))
+  first-lesser (Some r) (Some q) h k =
+      elim (is_lt (rank_cmp q r)) as (λ b. is_lt (rank_cmp q r) ≡ b → IsFirstRank test both (cond b q r)) [
+        | true ↦ λ e. of-second q k (λ x member pass. at-most-trans q r x (inr (is-less (rank_cmp q r) e)) (h.first x member pass))
+        | false ↦ λ e. of-first r h (λ x member pass. at-most-trans r q x (not-before r q e) (k.first x member pass))
+      ] refl

@@ -1,6 +1,5 @@
--- The variable picked is the first ranked one that is open, or the least open one where none is.
-use Rattle.std.proofs.Common.{◌≡◌, ℕ, ◌-◌, ◌<◌, ◌≤◌, true, false, cond, List, [], ◌∷◌, Some, None, refl, sym, ap, ◌∙◌, subst, inl, inr, ◌⊎◌, arith, nat_lt, lt-ltb, ltb-true, ltb-false, map, find}
-use Rattle.std.specs.List.Sorted.{IsStrictlySortedBy}
+-- The variable picked is that of the first rank that is open, or the least open one where none is.
+use Rattle.std.proofs.Common.{◌≡◌, ℕ, ◌-◌, ◌<◌, ◌≤◌, true, false, cond, List, [], ◌∷◌, Some, None, refl, sym, ap, ◌∙◌, inl, inr, ◌⊎◌, arith, nat_lt, lt-ltb, ltb-true, ltb-false}
 use Rattle.std.proofs.lemmas.Bool.{false≢true, or_left, or_right}
 use Rattle.qualified_goals.specs.declared.variable.Var.{Var}
 use Rattle.qualified_goals.specs.Variable.{same_var, is_before}
@@ -18,8 +17,8 @@ use Rattle.choice_problem.proofs.TrailLemmas.{open-unchosen, targets_open}
 use Rattle.choice_problem.proofs.VariableSets.{has-contains, rising-tail, rising-below, rising-set_of}
 use Rattle.count_search.specs.declared.ranks.Rank.{Rank}
 use Rattle.count_search.specs.declared.records.Met.{Met}
-use Rattle.count_search.specs.Ranks.{rank_cmp, has_rank, rank_of, AreScored}
-use Rattle.count_search.proofs.Orders.{either, rank-less, first-rank, none-first}
+use Rattle.count_search.specs.Ranks.{has_rank, rank_of, AreScored, IsFirstRank}
+use Rattle.count_search.proofs.Orders.{either, rank-less}
 use Rattle.count_search.proofs.Found.{one-or-other}
 use Rattle.count_search.proofs.Scores.{member-ranked, ranked-member}
 
@@ -80,36 +79,33 @@ module _ (p : Problem) (met : List (List Var)) (trail : List Choice) (table : Li
       ranked-member table ranks (score met) trail are (rank_of (score met u) u)
       (record { met = more; rest = refl; free = open-unchosen (general p) trail u opens })
 
-  pub picked-ranked : (v : Var) → IsStrictlySortedBy rank_cmp ranks → find (is_open p trail) (map (λ r. r.var) ranks) ≡ Some v → most_met met (open_in p trail) ≡ Some v
-  picked-ranked v sorted h =
-      let first = first-rank (is_open p trail) ranks v sorted h in
-      let r = first.rank in
+  pub picked-ranked : (r : Rank) → IsFirstRank (is_open p trail) (has_rank ranks) r → most_met met (open_in p trail) ≡ Some r.var
+  picked-ranked r first =
+      let v = r.var in
       let ranked = member-ranked table ranks (score met) trail are r first.member in
-      let mine : r.rest ≡ cap - score met v = ranked.rest ∙ ap (λ w. cap - score met w) first.var_is in
-      let often : 0 < score met v = subst (λ w. 0 < score met w) first.var_is ranked.met in
       most-is met (open_in p trail) v open-rising first.passes
       (λ u opens. elim (nat_lt 0 (score met u)) as (λ b. nat_lt 0 (score met u) ≡ b → IsAtMost met u v) [
-        | false ↦ λ e. inl (omega (arith, often, zero-of u e))
+        | false ↦ λ e. inl (omega (arith, ranked.met, zero-of u e))
         | true ↦ λ e.
             let q = rank_of (score met u) u in
             elim (first.first q (open-ranked u opens (ltb-true 0 (score met u) e)) opens) [
               | inl same ↦
-                  let one : v ≡ u = sym first.var_is ∙ ap (λ (x : Rank). x.var) same in
+                  let one : v ≡ u = ap (λ (x : Rank). x.var) same in
                   inr (ap (score met) (sym one), ap (λ w. is_before u w) one ∙ before-itself u)
               | inr less ↦ elim (rank-less r q less) [
-                | inl l ↦ inl (omega (arith, l, mine))
+                | inl l ↦ inl (omega (arith, l, ranked.rest))
                 | inr l ↦ inr (
-                  omega (arith, l.0, mine),
-                  before-back v u (ap (λ w. is_before w u) (sym first.var_is) ∙ l.1),
+                  omega (arith, l.0, ranked.rest),
+                  before-back v u l.1,
                 )
               ]
             ]
       ] refl)
 
-  pub picked-least : find (is_open p trail) (map (λ r. r.var) ranks) ≡ None → most_met met (open_in p trail) ≡ first_of (open_in p trail)
-  picked-least h =
+  pub picked-least : ((q : Rank) → has_rank ranks q ≡ true → is_open p trail q.var ≡ false) → most_met met (open_in p trail) ≡ first_of (open_in p trail)
+  picked-least none =
       most-none met (open_in p trail)
       (λ u opens. elim (nat_lt 0 (score met u)) as (λ b. nat_lt 0 (score met u) ≡ b → score met u ≡ 0) [
         | false ↦ λ e. zero-of u e
-        | true ↦ λ e. absurd (false≢true (sym (none-first (is_open p trail) ranks h (rank_of (score met u) u) (open-ranked u opens (ltb-true 0 (score met u) e))) ∙ opens))
+        | true ↦ λ e. absurd (false≢true (sym (none (rank_of (score met u) u) (open-ranked u opens (ltb-true 0 (score met u) e))) ∙ opens))
       ] refl)

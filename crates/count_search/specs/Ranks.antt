@@ -1,9 +1,10 @@
 -- Ranks of variables: ordered by falling score, equal ones by variable.
-use Rattle.std.specs.Prelude.{◌≡◌, ℕ, ◌+◌, ◌-◌, min, nat_lt, nat_eq, Bool, cond, ◌&&◌, ◌||◌, List, [], ◌∷◌, Some, None, is_none, is_some}
+use Rattle.std.specs.Prelude.{◌≡◌, ◌⊎◌, ℕ, ◌+◌, ◌-◌, min, nat_lt, nat_eq, Bool, true, false, cond, ◌&&◌, ◌||◌, List, [], ◌∷◌, ◌++◌, Option, Some, None, is_none, is_some, option_to_list, IfSome}
 use Rattle.std.specs.Option.{option_map, unwrap_or}
 use Rattle.std.specs.List.{list_any}
-use Rattle.std.specs.Ordering.{nat_cmp, ordering_then, is_eq}
+use Rattle.std.specs.Ordering.{nat_cmp, ordering_then, is_eq, is_lt}
 use Rattle.std.specs.declared.cmp.Ordering.{Ordering}
+use Rattle.std.specs.declared.cmp.Ordering.TheVariants.{Less}
 use Rattle.qualified_goals.specs.declared.variable.Var.{Var}
 use Rattle.qualified_goals.specs.Variable.{var_cmp, same_var}
 use Rattle.choice_problem.specs.declared.problem.Choice.{Choice}
@@ -28,6 +29,33 @@ has_rank ranks r = list_any (λ q. is_eq (rank_cmp r q)) ranks
 -- the rank of a variable with this score
 abbrev pub rank_of : ℕ → Var → Rank
 rank_of score v = record { rest = cap - score; var = v }
+
+-- the two ranks outside of a tree aren't in it, and they differ
+pub record AreApart (last second : Option Rank) (tree : List Rank) : Type 0 where
+  pub last_apart : IfSome last (λ r. has_rank (option_to_list second ++ tree) r ≡ false)
+  pub second_apart : IfSome second (λ r. has_rank tree r ≡ false)
+
+-- a rank of the set whose variable passes the test, before all others that pass
+pub record IsFirstRank (test : Var → Bool) (has : Rank → Bool) (rank : Rank) : Type 0 where
+  pub member : has rank ≡ true
+  pub passes : test rank.var ≡ true
+  pub first : (q : Rank) → has q ≡ true → test q.var ≡ true → (rank ≡ q) ⊎ (rank_cmp rank q ≡ Less)
+
+-- the first rank that passes, or none passes
+abbrev pub IsFirst : (Var → Bool) → (Rank → Bool) → Option Rank → Type 0
+IsFirst test has None = (q : Rank) → has q ≡ true → test q.var ≡ false
+IsFirst test has (Some rank) = IsFirstRank test has rank
+
+-- the rank, if its variable passes the test
+abbrev pub passing : (Var → Bool) → Option Rank → Option Rank
+passing test None = None
+passing test (Some r) = cond (test r.var) (Some r) None
+
+-- the lesser of at most two ranks
+abbrev pub lesser : Option Rank → Option Rank → Option Rank
+lesser None second = second
+lesser (Some r) None = Some r
+lesser (Some r) (Some q) = Some (cond (is_lt (rank_cmp q r)) q r)
 
 -- whether the rank is that of a variable with a score above 0 that isn't chosen
 abbrev pub is_ranked : (Var → ℕ) → List Choice → Rank → Bool

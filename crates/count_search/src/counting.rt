@@ -11,14 +11,13 @@ ghost use Rattle.choice_problem.specs.Guides.{most-met-is-guide};
 ghost use Rattle.validation.specs.View.{Represents};
 ghost use Rattle.count_search.specs.Ranks.{rank_cmp, AreBetween, AreScored, raised, raised_all};
 
-use crate::ranks::{Rank, put, rank_of, take_out};
+use crate::ranks::{Ranks, rank_of};
 use crate::records::{Records, count_one, mark, record_for, record_of};
 use backjump::Guide;
 use choice_problem::{ConflictSet, Trail, Var};
 use indexmap::IndexMap;
 use plan_types::NoMemory;
 use std::alloc::Global;
-use std::collections::BTreeSet;
 use validation::State;
 
 /// Picks the open variable with the greatest score, of equals the least. A score counts the conflict sets so far.
@@ -26,7 +25,7 @@ pub struct Counting {
     // The score of each variable, and whether it is chosen. A variable that isn't there was in no set.
     records: Records,
     // The ranks of the variables that were in a set and aren't chosen.
-    ranks: BTreeSet<Rank>,
+    ranks: Ranks,
 }
 
 // Explicit, so that it is proved once: a derived one is expanded at each exit.
@@ -42,11 +41,11 @@ impl Drop for Counting {
 impl Counting {
     /// A guide without conflict sets.
     pub fn new(alloc: Global) -> Counting
-        ensures { AreScored result.records.entries result.ranks.keys (spec.score []) [] }
+        ensures { AreScored result.records.entries result.ranks (spec.score []) [] }
     {
         Counting {
             records: IndexMap::new(alloc),
-            ranks: BTreeSet::new(alloc),
+            ranks: Ranks::new(alloc),
         }
     }
 }
@@ -57,24 +56,24 @@ impl Counting {
     // The first step for one variable.
     fn prepare(&mut self, v: Var, trail: &Trail) -> Result<(), NoMemory>
         ensures ok { OnOk result ((scores next : Var → ℕ) → next v ≡ scores v
-            → AreBetween self.old.records.entries self.old.ranks.keys scores next trail.now
-            → AreBetween self.new.records.entries self.new.ranks.keys scores (raised v next) trail.now) }
+            → AreBetween self.old.records.entries self.old.ranks scores next trail.now
+            → AreBetween self.new.records.entries self.new.ranks scores (raised v next) trail.now) }
         ensures err { OnErr result ((scores next : Var → ℕ)
-            → AreBetween self.old.records.entries self.old.ranks.keys scores next trail.now
-            → AreBetween self.new.records.entries self.new.ranks.keys scores next trail.now) }
+            → AreBetween self.old.records.entries self.old.ranks scores next trail.now
+            → AreBetween self.new.records.entries self.new.ranks scores next trail.now) }
     {
         let met = record_for(&mut self.records, v, trail)?;
         if met.chosen {
             return Ok(());
         }
-        put(&mut self.ranks, rank_of(met.sets.saturating_add(1), v))
+        self.ranks.add(rank_of(met.sets.saturating_add(1), v))
     }
 
     // Undoes the first step for one variable.
     fn withdraw(&mut self, v: Var)
         ensures { (scores next : Var → ℕ) (trail : List Choice) → next v ≡ scores v
-            → AreBetween self.old.records.entries self.old.ranks.keys scores (raised v next) trail
-            → AreBetween self.new.records.entries self.new.ranks.keys scores next trail }
+            → AreBetween self.old.records.entries self.old.ranks scores (raised v next) trail
+            → AreBetween self.new.records.entries self.new.ranks scores next trail }
     {
         let Some(met) = record_of(&self.records, v) else {
             return;
@@ -82,14 +81,14 @@ impl Counting {
         if met.sets == u64::MAX {
             return;
         }
-        take_out(&mut self.ranks, rank_of(met.sets + 1, v));
+        self.ranks.remove(rank_of(met.sets + 1, v));
     }
 
     // The second step for one variable.
     fn raise(&mut self, v: Var)
         ensures { (scores next : Var → ℕ) (trail : List Choice) → next v ≡ raised v scores v
-            → AreBetween self.old.records.entries self.old.ranks.keys scores next trail
-            → AreBetween self.new.records.entries self.new.ranks.keys (raised v scores) next trail }
+            → AreBetween self.old.records.entries self.old.ranks scores next trail
+            → AreBetween self.new.records.entries self.new.ranks (raised v scores) next trail }
     {
         let Some(met) = count_one(&mut self.records, v) else {
             return;
@@ -101,7 +100,7 @@ impl Counting {
         if met.sets == u64::MAX {
             return;
         }
-        take_out(&mut self.ranks, rank_of(met.sets, v));
+        self.ranks.remove(rank_of(met.sets, v));
     }
 }
 
@@ -110,11 +109,11 @@ impl Counting {
     fn prepare_all(&mut self, vars: &[Var], trail: &Trail) -> Result<(), NoMemory>
         requires { IsTrue (is_rising vars.now) }
         ensures ok { OnOk result ((scores : Var → ℕ)
-            → AreScored self.old.records.entries self.old.ranks.keys scores trail.now
-            → AreBetween self.new.records.entries self.new.ranks.keys scores (raised_all vars.now scores) trail.now) }
+            → AreScored self.old.records.entries self.old.ranks scores trail.now
+            → AreBetween self.new.records.entries self.new.ranks scores (raised_all vars.now scores) trail.now) }
         ensures err { OnErr result ((scores : Var → ℕ)
-            → AreScored self.old.records.entries self.old.ranks.keys scores trail.now
-            → AreScored self.new.records.entries self.new.ranks.keys scores trail.now) }
+            → AreScored self.old.records.entries self.old.ranks scores trail.now
+            → AreScored self.new.records.entries self.new.ranks scores trail.now) }
     {
         for place in 0..vars.len() {
             let v = vars[place];
@@ -131,9 +130,9 @@ impl Counting {
         requires rising { IsTrue (is_rising vars.now) }
         requires within { count ≤ length vars.now }
         ensures { (scores : Var → ℕ) (trail : List Choice)
-            → AreBetween self.old.records.entries self.old.ranks.keys scores (raised_all (take count vars.now) scores)
+            → AreBetween self.old.records.entries self.old.ranks scores (raised_all (take count vars.now) scores)
             trail
-            → AreScored self.new.records.entries self.new.ranks.keys scores trail }
+            → AreScored self.new.records.entries self.new.ranks scores trail }
     {
         let mut left = count;
         while left > 0 {
@@ -146,8 +145,8 @@ impl Counting {
     fn raise_all(&mut self, vars: &[Var])
         requires { IsTrue (is_rising vars.now) }
         ensures { (scores : Var → ℕ) (trail : List Choice)
-            → AreBetween self.old.records.entries self.old.ranks.keys scores (raised_all vars.now scores) trail
-            → AreScored self.new.records.entries self.new.ranks.keys (raised_all vars.now scores) trail }
+            → AreBetween self.old.records.entries self.old.ranks scores (raised_all vars.now scores) trail
+            → AreScored self.new.records.entries self.new.ranks (raised_all vars.now scores) trail }
     {
         for place in 0..vars.len() {
             self.raise(vars[place]);
@@ -155,28 +154,14 @@ impl Counting {
     }
 }
 
-// The first ranked variable that is open.
-fn first_open(ranks: &BTreeSet<Rank>, state: &State) -> Option<Var>
-    ensures sorted { IsStrictlySortedBy rank_cmp ranks.now.keys }
-    ensures first { (p : Problem) → Lawful p → Represents p state.now
-        → result ≡ find (is_open p state.now.trail) (map (λ r. r.var) ranks.now.keys) }
-{
-    for rank in ranks.iter() {
-        if state.is_open(rank.var) {
-            return Some(rank.var);
-        }
-    }
-    None
-}
-
 impl Guide for Counting {
     ghost picks = { spec.most_met };
 
-    ghost recalls = { λ guide met trail. AreScored guide.records.entries guide.ranks.keys (spec.score met) trail };
+    ghost recalls = { λ guide met trail. AreScored guide.records.entries guide.ranks (spec.score met) trail };
 
     fn pick(&self, state: &State) -> Option<Var> {
-        match first_open(&self.ranks, state) {
-            Some(v) => Some(v),
+        match self.ranks.first_open(state) {
+            Some(rank) => Some(rank.var),
             None => state.least(),
         }
     }
@@ -192,7 +177,7 @@ impl Guide for Counting {
         let Some(met) = mark(&mut self.records, v, true) else {
             return;
         };
-        take_out(&mut self.ranks, rank_of(met.sets, v));
+        self.ranks.remove(rank_of(met.sets, v));
     }
 
     fn taken_back(&mut self, v: Var) -> Result<(), NoMemory> {
@@ -203,7 +188,7 @@ impl Guide for Counting {
             let _ = mark(&mut self.records, v, false);
             return Ok(());
         }
-        put(&mut self.ranks, rank_of(met.sets, v))?;
+        self.ranks.add(rank_of(met.sets, v))?;
         let _ = mark(&mut self.records, v, false);
         Ok(())
     }

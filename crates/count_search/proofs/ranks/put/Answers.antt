@@ -11,7 +11,7 @@ or-as false b = refl
 
 pub returns-in-Ok-clause-ok : goal.returns-in-Ok-clause-ok
 returns-in-Ok-clause-ok c r =
-    let old = c.args.ranks.now.keys in
+    let old = c.args.tree.now.keys in
     sym (stored c.insert.new.self.keys r) ∙ c.in-Ok.ensures.updates.0 r
     ∙ ap (λ b. cond b true (found_in old r)) (ap is_eq (derived c.args.rank r))
     ∙ ap (λ b. cond (same_rank c.args.rank r) true b) (stored old r)

@@ -11,7 +11,7 @@ and-as false b = refl
 
 pub returns : goal.returns
 returns c r =
-    let old = c.args.ranks.now.keys in
+    let old = c.args.tree.now.keys in
     sym (stored c.remove.new.self.keys r) ∙ c.remove.ensures.updates.0 r
     ∙ ap (λ b. cond b false (found_in old r)) (ap is_eq (derived c.args.rank r))
     ∙ ap (λ b. cond (same_rank c.args.rank r) false b) (stored old r)

@@ -11,7 +11,7 @@ use Rattle.count_search.proofs.counting.Counting.prepare.Goals as goal
 pub returns-in_err-met-clause-err : goal.returns-in_err-met-clause-err
 returns-in_err-met-clause-err c =
     let s = c.args.self.now in
-    let ranks = s.ranks.keys in
+    let ranks = s.ranks in
     on-err c.from_residual.result
     ((scores next : Var → ℕ) → AreBetween s.records.entries ranks scores next c.args.trail.now
     → AreBetween c.record_for.new.records.entries ranks scores next c.args.trail.now)
@@ -23,7 +23,7 @@ returns-then-met-clause-ok c scores next same are =
     let trail = c.args.trail.now in
     let met = c.in_ok-met.met in
     let there = c.in_ok-met.ensures.met in
-    prepared-chosen s.records.entries s.ranks.keys scores next trail are c.args.v met
+    prepared-chosen s.records.entries s.ranks scores next trail are c.args.v met
     (record-sets s.records.entries c.args.v (is_some (value_in trail c.args.v)) met there)
     (record-chosen s.records.entries c.args.v trail met are.noted there)
     c.record_for.new.records.entries c.in_ok-met.ensures.is c.if-met.true
@@ -34,15 +34,15 @@ returns-clause-ok c =
     let trail = c.args.trail.now in
     let met = c.in_ok-met.met in
     let there = c.in_ok-met.ensures.met in
-    on_ok_weaker c.put.result
+    on_ok_weaker c.add.result
     (λ put scores next same are.
-    prepared-free s.records.entries s.ranks.keys scores next trail are c.args.v met
+    prepared-free s.records.entries s.ranks scores next trail are c.args.v met
     (record-sets s.records.entries c.args.v (is_some (value_in trail c.args.v)) met there)
     (record-chosen s.records.entries c.args.v trail met are.noted there)
     c.record_for.new.records.entries c.in_ok-met.ensures.is
-    c.put.new.ranks.keys c.saturating_add.result c.if-met.false same c.saturating_add.ensures
-    (λ r. put r ∙ ap (λ x. same_rank x r || has_rank s.ranks.keys r) c.rank_of.ensures))
-    c.put.ensures.ok
+    c.add.new.self c.saturating_add.result c.if-met.false same c.saturating_add.ensures
+    (λ r. put r ∙ ap (λ x. same_rank x r || has_rank s.ranks r) c.rank_of.ensures))
+    c.add.ensures.ok
 
 pub returns-clause-err : goal.returns-clause-err
 returns-clause-err c =
@@ -50,10 +50,10 @@ returns-clause-err c =
     let trail = c.args.trail.now in
     let met = c.in_ok-met.met in
     let there = c.in_ok-met.ensures.met in
-    on_err_weaker c.put.result
+    on_err_weaker c.add.result
     (λ kept scores next are.
-    entered s.records.entries s.ranks.keys scores next trail are c.args.v met
+    entered s.records.entries s.ranks scores next trail are c.args.v met
     (record-sets s.records.entries c.args.v (is_some (value_in trail c.args.v)) met there)
     (record-chosen s.records.entries c.args.v trail met are.noted there)
-    c.record_for.new.records.entries c.in_ok-met.ensures.is c.put.new.ranks.keys kept)
-    c.put.ensures.err
+    c.record_for.new.records.entries c.in_ok-met.ensures.is c.add.new.self kept)
+    c.add.ensures.err

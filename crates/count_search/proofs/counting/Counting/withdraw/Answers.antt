@@ -9,11 +9,11 @@ returns-then-met c scores next trail same are =
     let s = c.args.self.now in
     let counted = met-of s.records.entries c.args.v (Some c.in-Some.met) (sym c.record_of.ensures ∙ c.in-Some.is) in
     let full = same ∙ sym (are.counted c.args.v) ∙ counted ∙ c.if-met.true in
-    between-alike s.records.entries s.ranks.keys scores scores _ next trail (λ u. refl) (λ u. sym (raised-full c.args.v next full u)) are
+    between-alike s.records.entries s.ranks scores scores _ next trail (λ u. refl) (λ u. sym (raised-full c.args.v next full u)) are
 
 pub returns : goal.returns
 returns c scores next trail same are =
     let s = c.args.self.now in
     let counted = met-of s.records.entries c.args.v (Some c.in-Some.met) (sym c.record_of.ensures ∙ c.in-Some.is) in
-    withdrawn s.records.entries s.ranks.keys scores next trail c.args.v same are c.in-Some.met.sets c.take_out.new.ranks.keys (sym counted) (omega (arith, c.if-met.false))
-    (λ r. c.take_out.ensures r ∙ ap (λ x. not (same_rank x r) && has_rank s.ranks.keys r) c.rank_of.ensures)
+    withdrawn s.records.entries s.ranks scores next trail c.args.v same are c.in-Some.met.sets c.remove.new.self (sym counted) (omega (arith, c.if-met.false))
+    (λ r. c.remove.ensures r ∙ ap (λ x. not (same_rank x r) && has_rank s.ranks r) c.rank_of.ensures)

@@ -13,7 +13,7 @@ pub returns-in_default : goal.returns-in_default
 returns-in_default c met trail choice e are =
     let records = c.args.self.now.records.entries in
     let none : record_in records c.args.v ≡ None = sym c.mark.ensures.was ∙ c.in_default.is in
-    scored-new records c.args.self.now.ranks.keys (score met) trail are choice (ap (record_in records) e ∙ none) c.mark.new.records.entries
+    scored-new records c.args.self.now.ranks (score met) trail are choice (ap (record_in records) e ∙ none) c.mark.new.records.entries
     (λ u. c.mark.ensures.is u ∙ sym (absent records (marked true) c.args.v u none))
 
 pub returns : goal.returns
@@ -24,8 +24,8 @@ returns c met trail choice e are =
     let own = c.in-Some.met in
     let there : record_in records v ≡ Some own = sym c.mark.ensures.was ∙ c.in-Some.is in
     let sets = sym (met-of records v (Some own) there) in
-    scored-chosen records s.ranks.keys (score met) trail are v c.take_out.new.ranks.keys
-    (λ r. c.take_out.ensures r
-    ∙ ap (λ x. not (same_rank x r) && has_rank s.ranks.keys r) (c.rank_of.ensures ∙ ap (λ n. rank_of n v) (sets ∙ are.counted v)))
+    scored-chosen records s.ranks (score met) trail are v c.remove.new.self
+    (λ r. c.remove.ensures r
+    ∙ ap (λ x. not (same_rank x r) && has_rank s.ranks r) (c.rank_of.ensures ∙ ap (λ n. rank_of n v) (sets ∙ are.counted v)))
     choice e c.mark.new.records.entries (marked true own) sets refl
     (λ u. c.mark.ensures.is u ∙ ap (λ o. cond (same_var v u) (option_map (marked true) o) (record_in records u)) there)
