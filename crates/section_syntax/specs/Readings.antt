@@ -1,20 +1,21 @@
 -- Reading item by item: the parts of the earlier items, followed by those of the later ones, are the parts of all.
-use Rattle.std.specs.Prelude.{◌≡◌, ℕ, List, ◌++◌, map, Option, Some, None}
+use Rattle.std.specs.Prelude.{◌≡◌, ℕ, List, ◌++◌, map, Option, None}
 use Rattle.std.specs.declared.result.Result.{Result}
 use Rattle.plan_types.specs.declared.condition.Cond.{Cond}
 use Rattle.plan_types.specs.declared.element.Element.{Element}
 use Rattle.plan_types.specs.declared.range.Spec.{Spec}
 use Rattle.plan_types.specs.declared.refusal.Cause.{Cause}
 use Rattle.section_syntax.specs.Branch.{OwnCondition, branch_of, condition}
-use Rattle.section_syntax.specs.Items.{Items, SectionSays, branch_fits, import_fits, placed}
+use Rattle.section_syntax.specs.Items.{Items, SectionSays, branch_fits, import_fits}
+use Rattle.section_syntax.specs.Words.{inner_word}
 use Rattle.cabal_lexer.specs.Tree.{Tree, end, in_front}
 use Rattle.section_syntax.specs.declared.branch.Branch.{Branch}
 use Rattle.section_syntax.specs.declared.items.Before.{Before}
 use Rattle.section_syntax.specs.declared.items.Inside.{Inside}
 use Rattle.section_syntax.specs.declared.part.SectionPart.{SectionPart}
+use Rattle.section_syntax.specs.declared.part.Said.{Said}
 use Rattle.section_syntax.specs.declared.part.Said.TheVariants.{Branch as branch_said}
 use Rattle.section_syntax.specs.declared.words.BranchWord.{BranchWord}
-use Rattle.section_syntax.specs.declared.words.InnerWord.{InnerWord}
 
 -- the parts of these items under these branches, appended
 abbrev pub ReadsItems : Inside → Tree → List Branch → List SectionPart → List SectionPart → Type 0
@@ -40,16 +41,16 @@ ReadsItem inside item branches before after old new =
 
 -- the same for a section inside a section, which leaves a chain
 abbrev pub ReadsSection :
-    Inside → InnerWord → ℕ → List ℕ → Tree → List Branch → Option Cond → Option Cond → List SectionPart → List SectionPart → Type 0
-ReadsSection inside word line args items branches chain left old new =
+    Inside → ℕ → List ℕ → List ℕ → Tree → List Branch → Option Cond → Option Cond → List SectionPart → List SectionPart → Type 0
+ReadsSection inside line name args items branches chain left old new =
     (front behind : Tree) (more : List SectionPart) → Items inside.spec inside.kind front behind (map condition branches) left more
-    → (found : List SectionPart) × SectionSays inside.spec word line args (map condition branches) chain
+    → (found : List SectionPart) × SectionSays inside.spec (inner_word inside.kind name) line args (map condition branches) chain
     (λ within said. Items inside.spec inside.kind end items within None said)
     (λ left said. Items inside.spec inside.kind front behind (map condition branches) left said) found
     × (new ++ more ≡ old ++ found)
 
--- a branch is opened, and the part that begins it is appended
-abbrev pub OpensBranch : Spec → BranchWord → ℕ → List ℕ → Option Cond → List Branch → Branch → List SectionPart → List SectionPart → Type 0
-OpensBranch spec word line args chain branches branch old new =
+-- a branch is opened, and this is what the part that begins it says
+abbrev pub OpensBranch : Spec → BranchWord → List ℕ → Option Cond → Branch → Said → Type 0
+OpensBranch spec word args chain branch said =
     (own : Result Cond Cause) × OwnCondition spec word args own × (branch ≡ branch_of word chain own)
-    × (new ≡ old ++ placed line (map condition branches) (Some (branch_said word own (branch_fits word chain))))
+    × (said ≡ branch_said word own (branch_fits word chain))

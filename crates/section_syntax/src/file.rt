@@ -9,6 +9,7 @@ ghost use Rattle.section_syntax.specs.File.{HeadSays, Says, IsFile, SectionIs, h
 ghost use Rattle.cabal_lexer.specs.Tree.{Tree, in_front, tree_of};
 ghost use Rattle.section_syntax.specs.Words.{head_word, section_kind};
 
+use crate::element::SectionElement;
 use crate::items::{Inside, read_parts};
 use crate::part::{File, Head, HeadField, Section, SectionKind};
 use crate::words::{HeadWord, build_type, head_word, section_kind};
@@ -54,7 +55,15 @@ fn read_top(
             name,
             args,
             items,
-        } => read_section(alloc, spec, *line, name, args, items, sections)?,
+        } => {
+            let section = SectionElement {
+                line: *line,
+                name,
+                args,
+                items,
+            };
+            read_section(alloc, spec, &section, sections)?;
+        }
     }
     Ok(())
 }
@@ -97,25 +106,23 @@ fn push_head(line: u32, head: Option<Head>, heads: &mut List<HeadField>) -> Resu
 fn read_section(
     alloc: Global,
     spec: Spec,
-    line: u32,
-    name: &Text,
-    args: &Text,
-    items: &List<Element>,
+    section: &SectionElement<'_>,
     sections: &mut List<Section>,
 ) -> Result<(), NoMemory>
     ensures { OnOk result ((behind : Tree) (heads : List HeadField) (more : List Section) → Says spec behind heads more
         → (found : List Section)
-        × SectionIs spec (section_kind name.now) line args.now (tree_of items.now)
+        × SectionIs spec (section_kind section.now.name.now) section.now.line section.now.args.now
+        (tree_of section.now.items.now)
         (λ said. Says spec behind heads said) found
         × (sections.new ++ more ≡ sections.old ++ found)) }
 {
-    let Some(kind) = section_kind(name.as_str()) else {
+    let Some(kind) = section_kind(section.name.as_str()) else {
         return Ok(());
     };
-    let parts = read_parts(alloc, Inside { spec, kind }, items.as_slice())?;
-    let name = section_name(alloc, kind, args)?;
+    let parts = read_parts(alloc, Inside { spec, kind }, section.items.as_slice())?;
+    let name = section_name(alloc, kind, section.args)?;
     sections.push(Section {
-        line,
+        line: section.line,
         kind,
         name,
         parts,

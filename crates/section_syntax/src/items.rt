@@ -12,6 +12,7 @@ ghost use Rattle.cabal_lexer.specs.Tree.{Tree, in_front, tree_of};
 ghost use Rattle.section_syntax.specs.Readings.{OpensBranch, ReadsItem, ReadsItems, ReadsSection, KeepsKnowing};
 
 use crate::branch::{Branch, conditions, own_condition};
+use crate::element::SectionElement;
 use crate::field::said_by;
 use crate::part::{Said, SectionKind, SectionPart};
 use crate::words::{BranchWord, FieldWord, InnerWord, field_word, inner_word};
@@ -99,18 +100,13 @@ fn read_item(
             args,
             items,
         } => {
-            let word = inner_word(inside.kind, name.as_str());
-            let chain = read_section(
-                alloc,
-                inside,
-                word,
-                *line,
+            let section = SectionElement {
+                line: *line,
+                name,
                 args,
-                items.as_slice(),
-                before.chain,
-                branches,
-                parts,
-            )?;
+                items,
+            };
+            let chain = read_section(alloc, inside, &section, before.chain, branches, parts)?;
             Ok(Before { fits: false, chain })
         }
     }
@@ -166,71 +162,57 @@ fn place(
 fn read_section(
     alloc: Global,
     inside: Inside,
-    word: InnerWord,
-    line: u32,
-    args: &Text,
-    items: &[Element],
+    section: &SectionElement<'_>,
     chain: Option<Guard>,
     branches: &mut List<Branch>,
     parts: &mut List<SectionPart>,
 ) -> Result<Option<Guard>, NoMemory>
-    ensures parts { IfOk result (λ left.
-        ReadsSection inside word line args.now (tree_of items.now) branches.old chain left parts.old parts.new) }
+    ensures parts { IfOk result (λ left. ReadsSection inside section.now.line section.now.name.now section.now.args.now
+        (tree_of section.now.items.now) branches.old chain left parts.old parts.new) }
     ensures branches { IfOk result (λ _. branches.new ≡ branches.old) }
 {
-    match word {
+    match inner_word(inside.kind, section.name.as_str()) {
         InnerWord::Unread => Ok(None),
         InnerWord::Misplaced => {
-            place(alloc, branches.as_slice(), line, Said::Misplaced, parts)?;
+            place(
+                alloc,
+                branches.as_slice(),
+                section.line,
+                Said::Misplaced,
+                parts,
+            )?;
             Ok(None)
         }
         InnerWord::Branch(word) => {
-            let branch = open_branch(
-                alloc,
-                inside.spec,
-                word,
-                line,
-                args,
-                chain,
-                branches.as_slice(),
-                parts,
-            )?;
+            let (branch, said) = open_branch(alloc, inside.spec, word, section.args, chain)?;
+            place(alloc, branches.as_slice(), section.line, said, parts)?;
             branches.push(branch)?;
-            read_items(alloc, inside, items, branches, parts)?;
+            read_items(alloc, inside, section.items.as_slice(), branches, parts)?;
             let left = close_branch(branches);
             Ok(left)
         }
     }
 }
 
-/// Pushes the part that begins the branch.
+/// The branch, and what its first part says.
 fn open_branch(
     alloc: Global,
     spec: Spec,
     word: BranchWord,
-    line: u32,
     args: &Text,
     chain: Option<Guard>,
-    branches: &[Branch],
-    parts: &mut List<SectionPart>,
-) -> Result<Branch, NoMemory>
-    ensures { IfOk result (λ branch. OpensBranch spec word line args.now chain branches.now branch parts.old parts.new) }
+) -> Result<(Branch, Said), NoMemory>
+    ensures { IfOk result (λ opened. OpensBranch spec word args.now chain opened.0 opened.1) }
 {
     let fits = word == BranchWord::If || chain.is_some();
     let condition = own_condition(alloc, spec, word, args)?;
     let branch = Branch::of(alloc, word, chain, &condition)?;
-    place(
-        alloc,
-        branches,
-        line,
-        Said::Branch {
-            word,
-            condition,
-            fits,
-        },
-        parts,
-    )?;
-    Ok(branch)
+    let said = Said::Branch {
+        word,
+        condition,
+        fits,
+    };
+    Ok((branch, said))
 }
 
 /// The chain that ends with the closed branch.

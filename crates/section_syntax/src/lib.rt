@@ -5,6 +5,7 @@
 #![tactic(auto)]
 
 mod branch;
+mod element;
 mod field;
 mod file;
 mod items;

@@ -1,9 +1,8 @@
 use Rattle.std.proofs.Common.{◌≡◌, ◌++◌, [], map, sym, subst, ap, ◌∙◌, refl, arith, drop}
 use Rattle.std.proofs.lemmas.List.{append-nil, drop_all}
-use Rattle.plan_types.specs.declared.element.Element.TheVariants.{Section}
-use Rattle.std.specs.Prelude.{Some}
+use Rattle.std.specs.Prelude.{None, Some}
 use Rattle.section_syntax.specs.Branch.{condition}
-use Rattle.section_syntax.specs.Items.{Items, branch_fits, import_fits, may_import, placed}
+use Rattle.section_syntax.specs.Items.{Items, import_fits, may_import, placed}
 use Rattle.cabal_lexer.specs.Tree.{end, in_front, tree_of}
 use Rattle.section_syntax.specs.Words.{field_word, inner_word}
 use Rattle.section_syntax.specs.declared.part.Said.TheVariants as said
@@ -30,8 +29,8 @@ pub read_item-returns-in_ok-chain-in-Section-clause-parts :
     goal.read_item-returns-in_ok-chain-in-Section-clause-parts
 read_item-returns-in_ok-chain-in-Section-clause-parts t c front tells behind more rest =
     let part = c.in-Section in
-    section_goes c.args.inside.spec c.args.inside.kind part.line part.name part.args c.as_slice-in-Section.result.now front c.args.before.chain (map condition c.args.branches.now) c.args.parts.now c.read_section.new.parts behind more
-    (part.is ∙ ap (Section part.line part.name part.args) (sym c.as_slice-in-Section.ensures)) (c.inner_word-word.ensures ∙ ap (inner_word c.args.inside.kind) c.as_str-in-Section.ensures)
+    section_goes c.args.inside.spec c.args.inside.kind part.line part.name part.args part.items front c.args.before.chain (map condition c.args.branches.now) c.args.parts.now c.read_section.new.parts behind more
+    part.is refl
     ((c.in_ok-chain-in-Section.ensures).parts (in_front c.args.item.now front) behind more rest)
 
 pub read_item-returns-in_ok-chain-in-Section-clause-fits :
@@ -70,21 +69,29 @@ read_items-returns-clause-parts t c =
 
 pub read_section-returns-in-Unread-clause-parts : goal.read_section-returns-in-Unread-clause-parts
 read_section-returns-in-Unread-clause-parts t c front behind more rest =
-    unread_goes c.args.inside.spec c.args.inside.kind c.args.line c.args.args.now (map condition c.args.branches.now) c.args.chain _ _ c.args.parts.now more c.in-Unread.is rest
+    let section = c.args.section.now in
+    unread_goes c.args.inside.spec c.args.inside.kind section.line section.args.now (map condition c.args.branches.now) c.args.chain _ _ c.args.parts.now more
+    (sym (c.inner_word.ensures ∙ ap (inner_word c.args.inside.kind) c.as_str.ensures) ∙ c.in-Unread.is) rest
 
 pub read_section-returns-in_ok-place-in-Misplaced-clause-parts :
     goal.read_section-returns-in_ok-place-in-Misplaced-clause-parts
 read_section-returns-in_ok-place-in-Misplaced-clause-parts t c front behind more rest =
-    misplaced_goes c.args.inside.spec c.args.inside.kind c.args.line c.args.args.now (map condition c.args.branches.now) c.args.chain _ _ c.args.parts.now more c.in-Misplaced.is
-    (c.in_ok-place-in-Misplaced.ensures ∙ ap (λ b. c.args.parts.now ++ placed c.args.line (map condition b) (Some said.Misplaced)) c.as_slice.ensures) rest
+    let section = c.args.section.now in
+    misplaced_goes c.args.inside.spec c.args.inside.kind section.line section.args.now (map condition c.args.branches.now) c.args.chain _ _ c.args.parts.now more
+    (sym (c.inner_word.ensures ∙ ap (inner_word c.args.inside.kind) c.as_str.ensures) ∙ c.in-Misplaced.is)
+    (c.in_ok-place-in-Misplaced.ensures ∙ ap (λ b. c.args.parts.now ++ placed section.line (map condition b) (Some said.Misplaced)) c.as_slice.ensures) rest
 
 pub read_section-returns-in_ok-read_items-in-Branch-clause-parts :
     goal.read_section-returns-in_ok-read_items-in-Branch-clause-parts
 read_section-returns-in_ok-read_items-in-Branch-clause-parts t c front behind more rest =
+    let section = c.args.section.now in
     let opened = c.in_ok-branch-in-Branch.ensures in
     let read = (c.in_ok-read_items-in-Branch.ensures).parts in
     let closed = c.close_branch-left.ensures c.args.branches.now c.in_ok-branch-in-Branch.branch (c.in_ok-read_items-in-Branch.ensures.branches ∙ c.in_ok-push-in-Branch.ensures.ok) in
-    branch_goes c.args.inside.spec c.args.inside.kind c.in-Branch.word c.args.line c.args.args.now c.args.branches.now c.args.chain (tree_of c.args.items.now) _ c.args.parts.now more read.0 opened.0
-    c.in-Branch.is opened.1 opened.2
-    (opened.3 ∙ ap (λ b. c.args.parts.now ++ placed c.args.line (map condition b) (Some (said.Branch c.in-Branch.word opened.0 (branch_fits c.in-Branch.word c.args.chain)))) c.as_slice-in-Branch.ensures)
-    c.in_ok-push-in-Branch.ensures.ok read.1 read.2 closed.0 rest
+    branch_goes c.args.inside.spec c.args.inside.kind c.in-Branch.word section.line section.args.now c.args.branches.now c.args.chain (tree_of section.items.now) _ c.args.parts.now more read.0 opened.0
+    (sym (c.inner_word.ensures ∙ ap (inner_word c.args.inside.kind) c.as_str.ensures) ∙ c.in-Branch.is) opened.1 opened.2
+    (c.in_ok-place-in-Branch.ensures ∙ ap (λ b. c.args.parts.now ++ placed section.line (map condition b) (Some c.in_ok-branch-in-Branch.said)) c.as_slice-in-Branch.ensures
+    ∙ ap (λ s. c.args.parts.now ++ placed section.line (map condition c.args.branches.now) (Some s)) opened.3)
+    c.in_ok-push-in-Branch.ensures.ok
+    (subst (λ i. Items c.args.inside.spec c.args.inside.kind end (tree_of i) (map condition c.push.new.self) None read.0) c.as_slice-in-Branch-2.ensures read.1)
+    read.2 closed.0 rest
