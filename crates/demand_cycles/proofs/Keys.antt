@@ -1,6 +1,6 @@
 -- Keys without repetition.
 use Rattle.std.proofs.Common.{◌≡◌, ℕ, ◌+◌, ◌<◌, ◌≤◌, Bool, true, false, cond, not, ◌||◌, List, [], ◌∷◌, ◌++◌, length, drop, get_or, refl, sym, ap, ◌∙◌, arith, append_assoc, append-nil, add-one, drop-cons}
-use Rattle.std.specs.List.{Contains}
+use Rattle.std.specs.List.{Contains, list_any}
 use Rattle.std.specs.Prelude.{if◌then◌else◌}
 use Rattle.std.proofs.lemmas.Bool.{false≢true, or_left, or_right, and_parts, and_from}
 use Rattle.indexmap.specs.IndexSet.{insert_key}
@@ -10,8 +10,9 @@ use Rattle.qualified_goals.specs.Variable.{same_var}
 use Rattle.choice_problem.specs.ConflictSet.{has}
 use Rattle.qualified_goals.specs.SameVariable.{same_var-is, same_var-refl}
 use Rattle.common_laws.specs.Lists.{without}
-use Rattle.choice_problem.proofs.VariableSets.{has-append}
-use Rattle.demand_cycles.specs.Side.{are_once, with_key, with_keys}
+use Rattle.choice_problem.proofs.VariableSets.{has-append, same-back}
+use Rattle.demand_cycles.specs.Side.{are_once}
+use Rattle.demand_cycles.specs.VarSet.{IsIndexOf, with_key, with_keys}
 use Rattle.std.proofs.Math.Bool.{or-false}
 use Rattle.std.proofs.Math.Bool.{or_assoc}
 use Rattle.goal_links.proofs.VariableKeys.{found-has}
@@ -80,9 +81,25 @@ once-within (v ∷ keys) vars h all =
 pub inserted : (keys : List Var) (v : Var) → insert_key eq-value.it keys v ≡ with_key keys v
 inserted keys v = ap (λ b. if b then keys else keys ++ v ∷ []) (found-has keys v)
 
-pub one-added : (keys vars new : List Var) (place : ℕ) (d : Var) → place < length vars → new ≡ insert_key eq-value.it keys (get_or vars place d)
+pub one-added : (keys vars new : List Var) (place : ℕ) (d : Var) → place < length vars → new ≡ with_key keys (get_or vars place d)
     → with_keys new (drop (place + 1) vars) ≡ with_keys keys (drop place vars)
 one-added keys vars new place d within e =
-    ap (λ l. with_keys l (drop (place + 1) vars)) (e ∙ inserted keys (get_or vars place d))
+    ap (λ l. with_keys l (drop (place + 1) vars)) e
     ∙ ap (λ n. with_keys (with_key keys (get_or vars place d)) (drop n vars)) (add-one place)
     ∙ sym (ap (with_keys keys) (drop-cons vars place d within))
+
+-- a list of variables and its index
+
+pub eq-same : (v w : Var) → eq-value.it v w ≡ same_var w v
+eq-same v w = sym (or-false (eq-value.it v w)) ∙ found-has (w ∷ []) v ∙ or-false (same_var w v)
+
+pub scanned : (vars : List Var) (v : Var) → list_any (λ (w : Var). eq-value.it w v) vars ≡ has vars v
+scanned [] v = refl
+scanned (w ∷ vars) v = ap (λ b. b || list_any (λ (x : Var). eq-value.it x v) vars) (eq-same w v ∙ same-back v w) ∙ ap (λ b. same_var w v || b) (scanned vars v)
+
+pub index-whole : (vars : List Var) → IsIndexOf vars (with_keys [] vars)
+index-whole vars v = has-with_keys [] vars v
+
+pub index-more : (vars keys : List Var) (v : Var) → IsIndexOf vars keys → IsIndexOf (vars ++ v ∷ []) (with_key keys v)
+index-more vars keys v is u =
+    has-with_key keys v u ∙ ap (λ b. b || same_var v u) (is u) ∙ sym (has-append vars (v ∷ []) u ∙ ap (λ b. has vars u || b) (or-false (same_var v u)))

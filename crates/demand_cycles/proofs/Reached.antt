@@ -15,7 +15,8 @@ use Rattle.choice_problem.proofs.VariableSets.{has-contains, contains-has}
 use Rattle.choice_problem.proofs.EdgePaths.{Way, start, step, leads-way, way-leads}
 use Rattle.goal_links.proofs.NamedItems.{get-contains}
 use Rattle.demand_cycles.specs.Cycles.{HasEdge, AreAncestors, leads_to_any}
-use Rattle.demand_cycles.specs.Side.{IsPartReached, with_keys}
+use Rattle.demand_cycles.specs.Side.{IsPartReached}
+use Rattle.demand_cycles.specs.VarSet.{with_keys}
 use Rattle.demand_cycles.proofs.Keys.{with_keys-once, has-with_keys, with_keys-front, once-within}
 
 pub leads-goal : (edges : List Edge) (goals : List Var) (v w : Var) → Contains goals w → Way edges v w → leads_to_any edges goals v ≡ true

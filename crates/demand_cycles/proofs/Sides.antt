@@ -12,7 +12,8 @@ use Rattle.common_laws.specs.Lists.{contains-head, contains-none, contains-cases
 use Rattle.choice_problem.proofs.EdgePaths.{Way, start, step, way-join}
 use Rattle.demand_cycles.specs.Cycles.{HasEdge, leads_to_any}
 use Rattle.demand_cycles.specs.declared.side.Side.{Side}
-use Rattle.demand_cycles.specs.Side.{IsSide, IsPartReached, reversed_edge, reversed, with_keys}
+use Rattle.demand_cycles.specs.Side.{IsSide, IsPartReached, reversed_edge, reversed}
+use Rattle.demand_cycles.specs.VarSet.{with_keys}
 use Rattle.demand_cycles.proofs.Reached.{leads-goal, goal-of, reached-more, reached-all, reached-short}
 
 -- reversed edges
@@ -97,10 +98,10 @@ pub ahead-short : (edges : List Edge) (goal : Var) (keys : List Var) (place : �
 ahead-short edges goal keys place part = omega (arith, reached-short (reversed edges) (goal ∷ []) keys place part, length-map edges reversed_edge)
 
 -- a search that followed its next variable is a search
-pub gone-on : (edges : List Edge) (old new : Side) (next : Var) (found : List Var) → IsSide edges old → slice_get old.found.keys old.place ≡ Some next → new.end ≡ old.end
-    → new.found.keys ≡ with_keys old.found.keys found → new.place ≡ old.place + 1 → ((v : Var) → (Contains found v) ↔ (HasEdge edges v next)) → IsSide edges new
+pub gone-on : (edges : List Edge) (old new : Side) (next : Var) (found : List Var) → IsSide edges old → slice_get old.found old.place ≡ Some next → new.end ≡ old.end
+    → new.found ≡ with_keys old.found found → new.place ≡ old.place + 1 → ((v : Var) → (Contains found v) ↔ (HasEdge edges v next)) → IsSide edges new
 gone-on edges old new next found part is e f g all =
-    let more = reached-more edges (old.end ∷ []) old.found.keys old.place next found part is all in
-    subst (λ v. IsPartReached edges (v ∷ []) new.found.keys new.place) (sym e)
+    let more = reached-more edges (old.end ∷ []) old.found old.place next found part is all in
+    subst (λ v. IsPartReached edges (v ∷ []) new.found new.place) (sym e)
     (subst (λ l. IsPartReached edges (old.end ∷ []) l new.place) (sym f)
-    (subst (λ n. IsPartReached edges (old.end ∷ []) (with_keys old.found.keys found) n) (sym g) more))
+    (subst (λ n. IsPartReached edges (old.end ∷ []) (with_keys old.found found) n) (sym g) more))

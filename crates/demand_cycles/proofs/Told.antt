@@ -21,30 +21,30 @@ use Rattle.demand_cycles.proofs.Rings.{hit-of, lies-led}
 
 -- walks to the variable of a ring and from it
 
-back-way : (edges : List Edge) (a v : Var) (ring : Ring) → IsRingOf edges a ring → has ring.back.keys v ≡ true → Way edges v a
+back-way : (edges : List Edge) (a v : Var) (ring : Ring) → IsRingOf edges a ring → has ring.back v ≡ true → Way edges v a
 back-way edges a v ring is h =
     let on = goal-of edges (a ∷ []) v (sym (is.back v) ∙ h) in
     subst (Way edges v) (sym (one-of a on.0 on.1)) on.2
 
-way-back : (edges : List Edge) (a v : Var) (ring : Ring) → IsRingOf edges a ring → Way edges v a → has ring.back.keys v ≡ true
+way-back : (edges : List Edge) (a v : Var) (ring : Ring) → IsRingOf edges a ring → Way edges v a → has ring.back v ≡ true
 way-back edges a v ring is way = is.back v ∙ leads-goal edges (a ∷ []) v a (contains-head a []) way
 
-ahead-way : (edges : List Edge) (a v : Var) (ring : Ring) → IsRingOf edges a ring → has ring.ahead.keys v ≡ true → Way edges a v
+ahead-way : (edges : List Edge) (a v : Var) (ring : Ring) → IsRingOf edges a ring → has ring.ahead v ≡ true → Way edges a v
 ahead-way edges a v ring is h =
     let on = goal-of (reversed edges) (a ∷ []) v (sym (is.ahead v) ∙ h) in
     reversed-way edges v a (subst (Way (reversed edges) v) (sym (one-of a on.0 on.1)) on.2)
 
-way-ahead : (edges : List Edge) (a v : Var) (ring : Ring) → IsRingOf edges a ring → Way edges a v → has ring.ahead.keys v ≡ true
+way-ahead : (edges : List Edge) (a v : Var) (ring : Ring) → IsRingOf edges a ring → Way edges a v → has ring.ahead v ≡ true
 way-ahead edges a v ring is way = is.ahead v ∙ leads-goal (reversed edges) (a ∷ []) v a (contains-head a []) (way-reversed edges a v way)
 
 -- a ring closes an edge iff its variable leads to the edge's start, and the edge's end to it
 closed-ways : (edges : List Edge) (a v w : Var) (ring : Ring) → IsRingOf edges a ring → closes ring v w ≡ true → Way edges a v × Way edges w a
 closed-ways edges a v w ring is h =
-    let both = and_parts (has ring.ahead.keys v) (has ring.back.keys w) h in
+    let both = and_parts (has ring.ahead v) (has ring.back w) h in
     (ahead-way edges a v ring is both.0, back-way edges a w ring is both.1)
 
 ways-closed : (edges : List Edge) (a v w : Var) (ring : Ring) → IsRingOf edges a ring → Way edges a v → Way edges w a → closes ring v w ≡ true
-ways-closed edges a v w ring is on back = and_from (has ring.ahead.keys v) (has ring.back.keys w) (way-ahead edges a v ring is on) (way-back edges a w ring is back)
+ways-closed edges a v w ring is on back = and_from (has ring.ahead v) (has ring.back w) (way-ahead edges a v ring is on) (way-back edges a w ring is back)
 
 -- a ring that closes an edge gives a walk from the edge's end to its start
 any-way : (edges : List Edge) (vars : List Var) (rings : List Ring) (v w : Var) → AreRings edges vars rings → any_closes rings v w ≡ true → Way edges w v

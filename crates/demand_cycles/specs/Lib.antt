@@ -1,3 +1,4 @@
 pub mod Cycles
+pub mod VarSet
 pub mod Side
 pub mod Ring

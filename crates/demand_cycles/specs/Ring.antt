@@ -11,7 +11,7 @@ use Rattle.demand_cycles.specs.Side.{reversed}
 
 -- whether an edge lies on a cycle through the variable
 abbrev pub closes : Ring → Var → Var → Bool
-closes ring v w = has ring.ahead.keys v && has ring.back.keys w
+closes ring v w = has ring.ahead v && has ring.back w
 
 -- the same for any of several rings
 abbrev pub any_closes : List Ring → Var → Var → Bool
@@ -24,8 +24,8 @@ closes_from rings (Some owner) target = any_closes rings owner target
 
 -- the ring has the variables that v leads to, and those that lead to v
 pub record IsRingOf (edges : List Edge) (v : Var) (ring : Ring) : Type 0 where
-  pub ahead : AreAncestors (reversed edges) (v ∷ []) ring.ahead.keys
-  pub back : AreAncestors edges (v ∷ []) ring.back.keys
+  pub ahead : AreAncestors (reversed edges) (v ∷ []) ring.ahead
+  pub back : AreAncestors edges (v ∷ []) ring.back
 
 -- each is the ring of a variable, and each of vars lies on a cycle of one
 pub record AreRings (edges : List Edge) (vars : List Var) (rings : List Ring) : Type 0 where

@@ -1,19 +1,10 @@
 -- Searches along edges and against them, and the keys of a search.
-use Rattle.std.specs.Prelude.{◌≡◌, ℕ, ◌≤◌, Bool, true, cond, not, ◌&&◌, nat_lt, List, [], ◌∷◌, ◌++◌, length, take, map}
+use Rattle.std.specs.Prelude.{◌≡◌, ℕ, ◌≤◌, Bool, true, not, ◌&&◌, nat_lt, List, [], ◌∷◌, length, take, map}
 use Rattle.qualified_goals.specs.declared.variable.Var.{Var}
 use Rattle.choice_problem.specs.ConflictSet.{has}
 use Rattle.choice_problem.specs.Conflict.{Edge}
 use Rattle.demand_cycles.specs.declared.side.Side.{Side}
 use Rattle.demand_cycles.specs.Cycles.{HasEdge, leads_to_any}
-
--- the keys with one more, unless it is among them
-abbrev pub with_key : List Var → Var → List Var
-with_key keys v = cond (has keys v) keys (keys ++ v ∷ [])
-
--- the keys with several more, each once
-abbrev pub with_keys : List Var → List Var → List Var
-with_keys keys [] = keys
-with_keys keys (v ∷ vars) = with_keys (with_key keys v) vars
 
 -- no key is repeated
 abbrev pub are_once : List Var → Bool
@@ -38,11 +29,11 @@ reversed edges = map reversed_edge edges
 
 -- a search against the edges, from one goal
 abbrev pub IsSide : List Edge → Side → Type 0
-IsSide edges side = IsPartReached edges (side.end ∷ []) side.found.keys side.place
+IsSide edges side = IsPartReached edges (side.end ∷ []) side.found side.place
 
 -- the search isn't finished, and hasn't found the variable
 abbrev pub is_seeking : Side → Var → Bool
-is_seeking side v = nat_lt side.place (length side.found.keys) && not (has side.found.keys v)
+is_seeking side v = nat_lt side.place (length side.found) && not (has side.found v)
 
 -- neither of two searches is finished or has found the other's end
 abbrev pub are_apart : Side → Side → Bool

@@ -11,9 +11,9 @@ ghost use Rattle.demand_cycles.specs.Ring.{AreRings, IsRingOf, Tells, closes_fro
 ghost use Rattle.demand_cycles.specs.Side.{IsSide, reversed};
 
 use crate::ring::{Ring, any_closes};
-use crate::side::{Side, add_keys, are_apart, have_met};
+use crate::side::{Side, are_apart, have_met, is_seeking};
+use crate::var_set::VarSet;
 use choice_problem::{ConflictSet, Demand, Var, is_same, push_named};
-use indexmap::IndexSet;
 use plan_types::{List, NoMemory};
 use std::alloc::Global;
 
@@ -122,8 +122,8 @@ fn rings_of<G: Graph>(alloc: Global, graph: &G, vars: &[Var]) -> Result<Vec<Ring
 fn ring_of<G: Graph>(alloc: Global, graph: &G, v: Var) -> Result<Ring, NoMemory>
     ensures { IfOk result (IsRingOf (edges_of (G.demands graph.now)) v) }
 {
-    let ahead = descendants(alloc, graph, &[v])?;
-    let back = ancestors(alloc, graph, &[v])?;
+    let ahead = descendants(alloc, graph, v)?;
+    let back = ancestors(alloc, graph, v)?;
     Ok(Ring { ahead, back })
 }
 
@@ -164,18 +164,18 @@ fn is_on_cycle<G: Graph>(
     if !graph.is_chosen(demand.target) {
         return Ok(false);
     }
-    let mut back = side_of(alloc, last.take(), owner)?;
+    let mut back = side_of(alloc, last.take(), owner);
     let lies = is_led_to(alloc, graph, &mut back, demand.target)?;
     *last = Some(back);
     Ok(lies)
 }
 
-fn side_of(alloc: Global, last: Option<Side>, end: Var) -> Result<Side, NoMemory>
-    ensures end { IfOk result (λ side. side.end ≡ end) }
-    ensures side { (edges : List Edge) → IfSome last (IsSide edges) → IfOk result (IsSide edges) }
+fn side_of(alloc: Global, last: Option<Side>, end: Var) -> Side
+    ensures end { result.end ≡ end }
+    ensures side { (edges : List Edge) → IfSome last (IsSide edges) → IsSide edges result }
 {
     match last {
-        Some(side) if is_same(side.end, end) => Ok(side),
+        Some(side) if is_same(side.end, end) => side,
         _ => Side::new(alloc, end),
     }
 }
@@ -193,11 +193,11 @@ fn is_led_to<G: Graph>(
         is_led ≡ leads_to_any (edges_of (G.demands graph.now)) (back.old.end ∷ []) from) }
     ensures back { OnOk result (IsSide (edges_of (G.demands graph.now)) back.new) }
 {
-    let mut ahead = Side::new(alloc, from)?;
+    let mut ahead = Side::new(alloc, from);
     while are_apart(&ahead, back) {
         let targets = graph.targets(alloc, ahead.next())?;
         ahead.add(targets.as_slice())?;
-        if are_apart(&ahead, back) {
+        if is_seeking(&ahead, back.end) {
             let sources = graph.sources(alloc, back.next())?;
             back.add(sources.as_slice())?;
         }
@@ -205,31 +205,29 @@ fn is_led_to<G: Graph>(
     Ok(have_met(&ahead, back))
 }
 
-// The goals and all variables that lead to them.
-fn ancestors<G: Graph>(alloc: Global, graph: &G, goals: &[Var]) -> Result<IndexSet<Var>, NoMemory>
-    ensures { IfOk result (λ found. AreAncestors (edges_of (G.demands graph.now)) goals.now found.keys) }
+// The goal and all variables that lead to it.
+fn ancestors<G: Graph>(alloc: Global, graph: &G, goal: Var) -> Result<VarSet, NoMemory>
+    ensures { IfOk result (AreAncestors (edges_of (G.demands graph.now)) (goal ∷ [])) }
 {
-    let mut found = IndexSet::new(alloc);
-    add_keys(&mut found, goals)?;
+    let mut found = VarSet::of(alloc, goal);
     let mut place = 0;
     while place < found.len() {
-        let sources = graph.sources(alloc, found[place])?;
-        add_keys(&mut found, sources.as_slice())?;
+        let sources = graph.sources(alloc, found.at(place))?;
+        found.add_all(sources.as_slice())?;
         place += 1;
     }
     Ok(found)
 }
 
-// The variables begun with, and all variables to which they lead.
-fn descendants<G: Graph>(alloc: Global, graph: &G, begun: &[Var]) -> Result<IndexSet<Var>, NoMemory>
-    ensures { IfOk result (λ found. AreAncestors (reversed (edges_of (G.demands graph.now))) begun.now found.keys) }
+// The variable begun with, and all variables to which it leads.
+fn descendants<G: Graph>(alloc: Global, graph: &G, begun: Var) -> Result<VarSet, NoMemory>
+    ensures { IfOk result (AreAncestors (reversed (edges_of (G.demands graph.now))) (begun ∷ [])) }
 {
-    let mut found = IndexSet::new(alloc);
-    add_keys(&mut found, begun)?;
+    let mut found = VarSet::of(alloc, begun);
     let mut place = 0;
     while place < found.len() {
-        let targets = graph.targets(alloc, found[place])?;
-        add_keys(&mut found, targets.as_slice())?;
+        let targets = graph.targets(alloc, found.at(place))?;
+        found.add_all(targets.as_slice())?;
         place += 1;
     }
     Ok(found)

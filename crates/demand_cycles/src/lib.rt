@@ -6,5 +6,6 @@
 mod cycles;
 mod ring;
 mod side;
+mod var_set;
 
 pub use cycles::{Graph, cycle_set_of, push_owner};

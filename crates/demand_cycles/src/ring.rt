@@ -2,15 +2,14 @@
 ghost use Rattle.std.specs.Prelude.{◌≡◌};
 ghost use Rattle.demand_cycles.specs.Ring.{any_closes, closes};
 
-use crate::side::is_around;
+use crate::var_set::VarSet;
 use choice_problem::Var;
-use indexmap::IndexSet;
 
 /// What a variable leads to, and what leads to it. An edge lies on a cycle through the variable iff the variable leads
 /// to the start of the edge, and the end of the edge to the variable.
 pub(crate) struct Ring {
-    pub(crate) ahead: IndexSet<Var>,
-    pub(crate) back: IndexSet<Var>,
+    pub(crate) ahead: VarSet,
+    pub(crate) back: VarSet,
 }
 
 // Explicit, so that it is proved once: a derived one is expanded at each exit.
@@ -27,7 +26,7 @@ impl Ring {
     pub(crate) fn closes(&self, from: Var, to: Var) -> bool
         ensures { result ≡ closes self.now from to }
     {
-        is_around(&self.ahead, from) && is_around(&self.back, to)
+        self.ahead.holds(from) && self.back.holds(to)
     }
 }
 

@@ -1,18 +1,19 @@
 // A search along the edges from one variable, or against them.
-ghost use Rattle.std.specs.Prelude.{◌≡◌, ◌+◌, ◌<◌, ◌||◌, List, Some, IfOk, OnOk, length, slice_get};
+ghost use Rattle.std.specs.Prelude.{◌≡◌, ◌+◌, ◌<◌, ◌||◌, List, Some, OnOk, length, slice_get};
 ghost use Rattle.choice_problem.specs.ConflictSet.{has};
 ghost use Rattle.choice_problem.specs.Conflict.{Edge};
-ghost use Rattle.demand_cycles.specs.Side.{IsSide, are_apart, is_seeking, with_keys};
+ghost use Rattle.demand_cycles.specs.Side.{IsSide, are_apart, is_seeking};
+ghost use Rattle.demand_cycles.specs.VarSet.{with_keys};
 
+use crate::var_set::VarSet;
 use choice_problem::Var;
-use indexmap::IndexSet;
 use plan_types::NoMemory;
 use std::alloc::Global;
 
 /// A search from `end`: the variables found so far. The edges at those before `place` are followed already.
 pub(crate) struct Side {
     pub(crate) end: Var,
-    pub(crate) found: IndexSet<Var>,
+    pub(crate) found: VarSet,
     pub(crate) place: usize,
 }
 
@@ -28,49 +29,47 @@ impl Drop for Side {
 }
 
 impl Side {
-    pub(crate) fn new(alloc: Global, end: Var) -> Result<Side, NoMemory>
-        ensures end { IfOk result (λ side. side.end ≡ end) }
-        ensures begun { (edges : List Edge) → IfOk result (IsSide edges) }
+    pub(crate) fn new(alloc: Global, end: Var) -> Side
+        ensures end { result.end ≡ end }
+        ensures begun { (edges : List Edge) → IsSide edges result }
     {
-        let mut found = IndexSet::new(alloc);
-        add_keys(&mut found, &[end])?;
-        Ok(Side {
+        Side {
             end,
-            found,
+            found: VarSet::of(alloc, end),
             place: 0,
-        })
+        }
     }
 
     pub(crate) fn holds(&self, v: Var) -> bool
-        ensures { result ≡ has self.now.found.keys v }
+        ensures { result ≡ has self.now.found v }
     {
-        is_around(&self.found, v)
+        self.found.holds(v)
     }
 
     /// The next variable whose edges are followed.
     pub(crate) fn next(&self) -> Var
-        requires { self.now.place < length self.now.found.keys }
-        ensures { slice_get self.now.found.keys self.now.place ≡ Some result }
+        requires { self.now.place < length self.now.found }
+        ensures { slice_get self.now.found self.now.place ≡ Some result }
     {
-        self.found[self.place]
+        self.found.at(self.place)
     }
 
     /// Adds the variables that the next variable's edges lead to.
     pub(crate) fn add(&mut self, vars: &[Var]) -> Result<(), NoMemory>
-        requires { self.old.place < length self.old.found.keys }
+        requires { self.old.place < length self.old.found }
         ensures end { OnOk result (self.new.end ≡ self.old.end) }
-        ensures found { OnOk result (self.new.found.keys ≡ with_keys self.old.found.keys vars.now) }
+        ensures found { OnOk result (self.new.found ≡ with_keys self.old.found vars.now) }
         ensures place { OnOk result (self.new.place ≡ self.old.place + 1) }
     {
         prove!(self.place < self.found.len());
-        add_keys(&mut self.found, vars)?;
+        self.found.add_all(vars)?;
         self.place += 1;
         Ok(())
     }
 }
 
-// Whether a variable isn't found yet, but may still be.
-fn is_seeking(side: &Side, v: Var) -> bool
+/// Whether a variable isn't found yet, but may still be.
+pub(crate) fn is_seeking(side: &Side, v: Var) -> bool
     ensures { result ≡ is_seeking side.now v }
 {
     side.place < side.found.len() && !side.holds(v)
@@ -85,22 +84,7 @@ pub(crate) fn are_apart(ahead: &Side, back: &Side) -> bool
 
 /// Whether either search has found the other's end.
 pub(crate) fn have_met(ahead: &Side, back: &Side) -> bool
-    ensures { result ≡ has ahead.now.found.keys back.now.end || has back.now.found.keys ahead.now.end }
+    ensures { result ≡ has ahead.now.found back.now.end || has back.now.found ahead.now.end }
 {
     ahead.holds(back.end) || back.holds(ahead.end)
-}
-
-pub(crate) fn is_around(found: &IndexSet<Var>, v: Var) -> bool
-    ensures { result ≡ has found.now.keys v }
-{
-    found.contains(&v)
-}
-
-pub(crate) fn add_keys(found: &mut IndexSet<Var>, vars: &[Var]) -> Result<(), NoMemory>
-    ensures { OnOk result (found.new.keys ≡ with_keys found.old.keys vars.now) }
-{
-    for v in vars {
-        found.insert(*v)?;
-    }
-    Ok(())
 }

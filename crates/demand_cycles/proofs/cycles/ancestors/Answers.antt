@@ -1,34 +1,34 @@
-use Rattle.std.proofs.Common.{◌≡◌, ◌+◌, [], subst, sym, ap, ◌∙◌, arith}
+use Rattle.std.proofs.Common.{◌≡◌, ◌+◌, ◌∷◌, [], subst, sym, ap, ◌∙◌, arith}
 use Rattle.choice_problem.specs.Conflict.{edges_of}
-use Rattle.demand_cycles.specs.Side.{IsPartReached, with_keys}
+use Rattle.demand_cycles.specs.Side.{IsPartReached}
+use Rattle.demand_cycles.specs.VarSet.{with_keys}
 use Rattle.demand_cycles.proofs.Reached.{reached-none, reached-more, reached-all, reached-short}
 use Rattle.demand_cycles.proofs.cycles.ancestors.Goals as goal
 
 pub loop-place-init : goal.loop-place-init
 loop-place-init g c =
     let edges = edges_of (g.G.Graph.demands c.args.graph.now) in
-    let goals = c.args.goals.now in
-    let e : c.add_keys.new.found.keys ≡ with_keys [] goals = c.in_ok-add_keys.ensures ∙ ap (λ l. with_keys l goals) c.new-found.ensures.empty in
-    subst (λ l. IsPartReached edges goals l 0) (sym e) (reached-none edges goals)
+    let goals = c.args.goal ∷ [] in
+    subst (λ l. IsPartReached edges goals l 0) (sym c.of-found.ensures) (reached-none edges goals)
 
 pub loop-place-smaller : goal.loop-place-smaller
 loop-place-smaller g c =
     let edges = edges_of (g.G.Graph.demands c.args.graph.now) in
-    let short = reached-short edges c.args.goals.now c.loop-place.found.keys c.loop-place.place c.loop-place.invariant in
-    omega (arith, short, c.loop-place-test.true, c.len.ensures.len)
+    let short = reached-short edges (c.args.goal ∷ []) c.loop-place.found c.loop-place.place c.loop-place.invariant in
+    omega (arith, short, c.loop-place-test.true, c.len.ensures)
 
 pub loop-place-preserved : goal.loop-place-preserved
 loop-place-preserved g c =
     let edges = edges_of (g.G.Graph.demands c.args.graph.now) in
-    let goals = c.args.goals.now in
-    let keys = c.loop-place.found.keys in
+    let goals = c.args.goal ∷ [] in
+    let keys = c.loop-place.found in
     let place = c.loop-place.place in
     let sources = c.in_ok-sources.sources in
-    let e : c.add_keys-in-loop-place.new.found.keys ≡ with_keys keys sources = c.in_ok-add_keys-2.ensures ∙ ap (with_keys keys) c.as_slice.ensures in
+    let e : c.add_all.new.self ≡ with_keys keys sources = c.in_ok-add_all.ensures ∙ ap (with_keys keys) c.as_slice.ensures in
     subst (λ l. IsPartReached edges goals l (place + 1)) (sym e)
-    (reached-more edges goals keys place c.index.result.now sources c.loop-place.invariant c.index.ensures c.in_ok-sources.ensures)
+    (reached-more edges goals keys place c.at.result sources c.loop-place.invariant c.at.ensures c.in_ok-sources.ensures)
 
 pub returns : goal.returns
 returns g c =
     let edges = edges_of (g.G.Graph.demands c.args.graph.now) in
-    reached-all edges c.args.goals.now c.loop-place.found.keys c.loop-place.place c.loop-place.invariant (omega (arith, c.loop-place-test.false, c.len.ensures.len))
+    reached-all edges (c.args.goal ∷ []) c.loop-place.found c.loop-place.place c.loop-place.invariant (omega (arith, c.loop-place-test.false, c.len.ensures))

@@ -12,5 +12,5 @@ returns-then-not-is_chosen-clause-lies g c =
 pub returns-clause-lies : goal.returns-clause-lies
 returns-clause-lies g c =
     let edges = edges_of (g.G.Graph.demands c.args.graph.now) in
-    c.in_ok-lies.ensures.is_led ∙ ap (λ v. leads_to_any edges (v ∷ []) c.args.demand.now.target) c.in_ok-back.ensures.end
+    c.in_ok-lies.ensures.is_led ∙ ap (λ v. leads_to_any edges (v ∷ []) c.args.demand.now.target) c.side_of-back.ensures.end
     ∙ lies-led edges c.args.demand.now c.in-Some.owner (sym c.in-Some.ensures)

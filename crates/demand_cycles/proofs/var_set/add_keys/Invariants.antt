@@ -1,0 +1,6 @@
+use Rattle.std.proofs.Common.{◌≡◌, drop}
+use Rattle.demand_cycles.specs.VarSet.{with_keys}
+use Rattle.demand_cycles.proofs.var_set.add_keys.Given as goal
+
+abbrev pub invariant-loop-v : goal.invariant-loop-v
+invariant-loop-v l = with_keys l.keys.keys (drop l.v-index l.vars) ≡ with_keys l.initial.keys.keys l.vars
