@@ -1,5 +1,5 @@
 -- The variable picked is that of the first rank that is open, or the least open one where none is.
-use Rattle.std.proofs.Common.{◌≡◌, ℕ, ◌-◌, ◌<◌, ◌≤◌, true, false, cond, List, [], ◌∷◌, Some, None, refl, sym, ap, ◌∙◌, inl, inr, ◌⊎◌, arith, nat_lt, lt-ltb, ltb-true, ltb-false}
+use Rattle.std.proofs.Common.{◌≡◌, ℕ, ◌<◌, ◌≤◌, true, false, cond, List, [], ◌∷◌, Some, None, refl, sym, ap, ◌∙◌, inl, inr, ◌⊎◌, arith, nat_lt, lt-ltb, ltb-true, ltb-false}
 use Rattle.std.proofs.lemmas.Bool.{false≢true, or_left, or_right}
 use Rattle.qualified_goals.specs.declared.variable.Var.{Var}
 use Rattle.qualified_goals.specs.Variable.{same_var, is_before}
@@ -11,7 +11,7 @@ use Rattle.choice_problem.specs.General.{general}
 use Rattle.choice_problem.specs.Active.{open_in, is_open}
 use Rattle.choice_problem.specs.Trail.{demands_after, open_vars}
 use Rattle.choice_problem.specs.ConflictSet.{has, is_rising, first_of}
-use Rattle.choice_problem.specs.Guide.{cap, score, better, most_met}
+use Rattle.choice_problem.specs.Guide.{score, better, most_met}
 use Rattle.choice_problem.specs.Guides.{most-met-is-guide}
 use Rattle.choice_problem.proofs.TrailLemmas.{open-unchosen, targets_open}
 use Rattle.choice_problem.proofs.VariableSets.{has-contains, rising-tail, rising-below, rising-set_of}

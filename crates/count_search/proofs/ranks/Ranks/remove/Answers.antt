@@ -1,7 +1,7 @@
 -- the rank is removed from the part that has it
 use Rattle.std.proofs.Common.{sym, ap, ◌∙◌, not, ◌&&◌}
 use Rattle.count_search.specs.Ranks.{has_rank, same_rank}
-use Rattle.count_search.proofs.Parts.{inside-apart, last-apart, removed-inside, removed-last, removed-second, second-apart}
+use Rattle.count_search.proofs.Parts.{inside-apart, removed-inside, removed-last, removed-second, second-apart}
 use Rattle.count_search.proofs.ranks.Ranks.remove.Goals as goal
 
 pub returns-then-is_held : goal.returns-then-is_held
