@@ -1,6 +1,8 @@
 -- Queries: the demands on a variable, the first that passes a test, and the least open variable.
-use Rattle.std.proofs.Common.{◌≡◌, ℕ, zero, suc, ◌<◌, arith, length, get_or, Bool, true, false, not, cond, ◌&&◌, ◌||◌, List, [], ◌∷◌, Some, is_none, find, map, filter, refl, sym, ap, ◌∙◌, subst}
+use Rattle.std.proofs.Common.{◌≡◌, ℕ, zero, suc, ◌<◌, arith, length, get_or, Bool, true, false, not, cond, ◌&&◌, ◌||◌, List, [], ◌∷◌, Option, None, Some, IfSome, is_none, find, map, filter, refl, sym, ap, ◌∙◌, subst}
 use Rattle.std.specs.List.{slice_get}
+use Rattle.std.specs.Option.{option_map}
+use Rattle.std.specs.Iterator.{YieldsFirst}
 use Rattle.qualified_goals.specs.declared.variable.Var.{Var}
 use Rattle.choice_problem.specs.declared.problem.Choice.{Choice}
 use Rattle.choice_problem.specs.declared.problem.Demand.{Demand}
@@ -59,6 +61,17 @@ find-asks listed v (m ∷ ms) h =
     elim (same_var m.var v) as (λ b. slice_get (demands_at listed (map (λ x. x.place) (cond b (m ∷ filter (λ x. same_var x.var v) ms) (filter (λ x. same_var x.var v) ms)))) 0
     ≡ cond b (Some d) (find (asks_for v) (demands_at listed (places_of ms)))) [ true ↦ refl | false ↦ more ]
     ∙ sym (ap (λ b. cond b (Some d) (find (asks_for v) (demands_at listed (places_of ms)))) target)
+
+-- the demand at the first of the places
+pub first-yielded : (listed : List Demand) (places : List ℕ) (first : Option ℕ) (rest : List ℕ) → YieldsFirst (λ (ps : List ℕ). ps) places first rest
+    → option_map (demand_at listed) first ≡ slice_get (demands_at listed places) 0
+first-yielded listed places None rest h = ap (λ ps. slice_get (demands_at listed ps) 0) (sym h.0)
+first-yielded listed places (Some k) rest h = ap (λ ps. slice_get (demands_at listed ps) 0) (sym h)
+
+pub first-below : (n : ℕ) (places : List ℕ) (first : Option ℕ) (rest : List ℕ) → YieldsFirst (λ (ps : List ℕ). ps) places first rest → AllBelow n places
+    → IfSome first (λ k. k < n)
+first-below n places None rest h below = tt
+first-below n places (Some k) rest h below = (subst (AllBelow n) h below).0
 
 pub refuses-only : (c : Choice) (d : Demand) → same_var d.target c.var ≡ false → refuses c d ≡ false
 refuses-only c d h = ap (λ b. b && not (is_one_of (Some c.val) d.allowed)) h

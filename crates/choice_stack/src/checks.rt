@@ -1,6 +1,6 @@
 // Queries on demands under the choices so far.
 ghost use Rattle.std.specs.Prelude.{◌≡◌, ◌<◌, ◌++◌, List, Some, None, IfSome, IfOk, OnOk};
-ghost use Rattle.std.specs.Prelude.{length, filter, find, slice_get, option_to_list};
+ghost use Rattle.std.specs.Prelude.{[], cond, length, filter, find, option_to_list};
 ghost use Rattle.std.specs.Option.{option_map};
 ghost use Rattle.choice_problem.specs.declared.problem.Demand.{Demand};
 ghost use Rattle.choice_problem.specs.Assignment.{is_made, is_yes};
@@ -14,6 +14,7 @@ ghost use Rattle.demand_cycles.specs.Cycles.{owner_of};
 
 use choice_problem::{Choice, ConflictSet, Demand, Values, Var, is_same, push_named};
 use demand_cycles::push_owner;
+use goal_links::Places;
 use plan_types::NoMemory;
 use std::alloc::Global;
 
@@ -33,14 +34,14 @@ fn is_broken(trail: &Values<'_>, d: &Demand) -> bool
 }
 
 /// The first of the demands at these places that refuses a choice.
-pub(crate) fn first_refusing(listed: &[Demand], places: &[usize], c: Choice) -> Option<usize>
-    requires { AllBelow (length listed.now) places.now }
-    ensures found { find (refuses c) (demands_at listed.now places.now) ≡ option_map (demand_at listed.now) result }
+pub(crate) fn first_refusing(listed: &[Demand], places: Places<'_>, c: Choice) -> Option<usize>
+    requires { AllBelow (length listed.now) places }
+    ensures found { find (refuses c) (demands_at listed.now places.entry) ≡ option_map (demand_at listed.now) result }
     ensures within { IfSome result (λ place. place < length listed.now) }
 {
     for place in places {
-        if refuses(c, demand_in(listed, *place)) {
-            return Some(*place);
+        if refuses(c, demand_in(listed, place)) {
+            return Some(place);
         }
     }
     None
@@ -95,22 +96,22 @@ fn vars_of(alloc: Global, when: &[Choice]) -> Result<Vec<Var>, NoMemory>
     Ok(vars)
 }
 
-/// The variables of the condition of the demand at the first place.
+/// The set of the variables of the condition of the demand at the place, if a place is given.
 pub(crate) fn reason_at(
     alloc: Global,
     listed: &[Demand],
-    places: &[usize],
+    place: Option<usize>,
 ) -> Result<ConflictSet, NoMemory>
-    requires { AllBelow (length listed.now) places.now }
-    ensures { IfOk result (λ set. set ≡ set_of (vars_of_first (slice_get (demands_at listed.now places.now) 0))) }
+    requires { IfSome place (λ k. k < length listed.now) }
+    ensures { IfOk result (λ set. set ≡ set_of (vars_of_first (option_map (demand_at listed.now) place))) }
 {
-    match places {
-        [place, ..] => {
-            let vars = vars_of(alloc, listed[*place].when.as_slice())?;
+    match place {
+        Some(place) => {
+            let vars = vars_of(alloc, listed[place].when.as_slice())?;
             let set = ConflictSet::of(alloc, vars.as_slice())?;
             Ok(set)
         }
-        [] => Ok(ConflictSet::new(alloc)),
+        None => Ok(ConflictSet::new(alloc)),
     }
 }
 
@@ -118,16 +119,16 @@ pub(crate) fn yes_among(
     alloc: Global,
     listed: &[Demand],
     trail: &Values<'_>,
-    places: &[usize],
+    places: Places<'_>,
 ) -> Result<Vec<usize>, NoMemory>
-    requires { AllBelow (length listed.now) places.now }
+    requires { AllBelow (length listed.now) places }
     ensures { IfOk result (λ found. found.items
-        ≡ filter (λ k. is_yes (value_in trail.now) (demand_at listed.now k)) places.now) }
+        ≡ filter (λ k. is_yes (value_in trail.now) (demand_at listed.now k)) places.entry) }
 {
     let mut found = Vec::new(alloc);
     for place in places {
-        if is_yes(trail, demand_in(listed, *place)) {
-            found.push(*place)?;
+        if is_yes(trail, demand_in(listed, place)) {
+            found.push(place)?;
         }
     }
     Ok(found)
@@ -202,14 +203,14 @@ pub(crate) fn are_naming(choices: &[Choice], v: Var) -> bool
 pub(crate) fn owners_at(
     alloc: Global,
     listed: &[Demand],
-    places: &[usize],
+    places: Places<'_>,
 ) -> Result<Vec<Var>, NoMemory>
-    requires { AllBelow (length listed.now) places.now }
-    ensures { IfOk result (λ owners. owners.items ≡ owners_of (demands_at listed.now places.now)) }
+    requires { AllBelow (length listed.now) places }
+    ensures { IfOk result (λ owners. owners.items ≡ owners_of (demands_at listed.now places.entry)) }
 {
     let mut owners = Vec::new(alloc);
     for place in places {
-        push_owner_at(&mut owners, listed, *place)?;
+        push_owner_at(&mut owners, listed, place)?;
     }
     Ok(owners)
 }
@@ -274,6 +275,41 @@ pub(crate) fn targets_at(
         }
     }
     Ok(targets)
+}
+
+/// The targets of the demands that a variable owns and that are Yes, among those at these places.
+pub(crate) fn yes_targets_at(
+    alloc: Global,
+    listed: &[Demand],
+    trail: &Values<'_>,
+    places: Places<'_>,
+    owner: Var,
+) -> Result<Vec<Var>, NoMemory>
+    requires { AllBelow (length listed.now) places }
+    ensures { IfOk result (λ targets. targets.items ≡ targets_by owner
+        (demands_at listed.now (filter (λ k. is_yes (value_in trail.now) (demand_at listed.now k)) places.entry))) }
+{
+    let mut targets = Vec::new(alloc);
+    for place in places {
+        push_yes_target(&mut targets, demand_in(listed, place), trail, owner)?;
+    }
+    Ok(targets)
+}
+
+// Whether the variable owns the demand is tested first, since that is cheaper.
+fn push_yes_target(
+    targets: &mut Vec<Var>,
+    demand: &Demand,
+    trail: &Values<'_>,
+    owner: Var,
+) -> Result<(), NoMemory>
+    ensures { OnOk result (targets.new.items
+        ≡ targets.old.items ++ cond (is_yes (value_in trail.now) demand.now) (target_by owner demand.now) []) }
+{
+    if is_owned_by(demand, owner) && is_yes(trail, demand) {
+        targets.push(demand.target)?;
+    }
+    Ok(())
 }
 
 fn is_owned_by(demand: &Demand, owner: Var) -> bool

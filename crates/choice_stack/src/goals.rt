@@ -12,7 +12,7 @@ ghost use Rattle.goal_links.specs.declared.mentions.Mention.{Mention};
 ghost use Rattle.choice_stack.specs.Open.{KeepsNeighbours, StayKept, MayComeBack, any_var, is_other, is_behind};
 
 use choice_problem::{Var, is_before};
-use goal_links::{Mention, Mentions};
+use goal_links::{Mention, Mentions, Places};
 use plan_types::NoMemory;
 use std::alloc::Global;
 use std::marker::Model;
@@ -81,11 +81,10 @@ impl Goals {
         self.mentions.names_entry(entry)
     }
 
-    pub(crate) fn places(&self, alloc: Global, v: Var) -> Result<Vec<usize>, NoMemory>
-        ensures { IfOk result (λ found. found.items ≡ places_on v self.now.said) }
+    pub(crate) fn places(&self, v: Var) -> Places<'_>
+        ensures { result ≡ places_on v self.now.said }
     {
-        let found = self.mentions.places(alloc, v)?;
-        Ok(found)
+        self.mentions.places(v)
     }
 
     pub(crate) fn indices(&self, alloc: Global, v: Var) -> Result<Vec<usize>, NoMemory>

@@ -18,7 +18,7 @@ ghost use Rattle.choice_stack.specs.Stack.{AreOpen, IsSettled, undone, names, Al
 
 use crate::addition::Addition;
 use crate::checks::{
-    demand_in, first_refusing, owners_at, reason_at, set_at, targets_at, yes_among,
+    demand_in, first_refusing, owners_at, reason_at, set_at, yes_among, yes_targets_at,
 };
 use crate::goals::Goals;
 use crate::growth::{activate, list_all, make_ready};
@@ -222,8 +222,8 @@ impl Stack {
             demands_at self.now.listed found.items ≡ turned trail.now v self.now.listed) }
         ensures within { IfOk result (λ found. AllBelow (length self.now.listed) found.items) }
     {
-        let places = self.watchers.places(alloc, v)?;
-        let found = yes_among(alloc, self.listed.as_slice(), trail, places.as_slice())?;
+        let places = self.watchers.places(v);
+        let found = yes_among(alloc, self.listed.as_slice(), trail, places)?;
         Ok(found)
     }
 }
@@ -253,8 +253,8 @@ impl Stack {
     pub fn reason(&self, alloc: Global, v: Var) -> Result<ConflictSet, NoMemory>
         ensures { IfOk result (λ set. set ≡ set_of (vars_of_first (find (asks_for v) self.now.active))) }
     {
-        let places = self.goals.places(alloc, v)?;
-        let set = reason_at(alloc, self.listed.as_slice(), places.as_slice())?;
+        let first = self.goals.places(v).next();
+        let set = reason_at(alloc, self.listed.as_slice(), first)?;
         Ok(set)
     }
 
@@ -262,8 +262,8 @@ impl Stack {
     pub fn refused(&self, alloc: Global, c: Choice) -> Result<Option<ConflictSet>, NoMemory>
         ensures { IfOk result (λ set. set ≡ set_of_first (find (refuses c) self.now.active)) }
     {
-        let places = self.goals.places(alloc, c.var)?;
-        let first = first_refusing(self.listed.as_slice(), places.as_slice(), c);
+        let places = self.goals.places(c.var);
+        let first = first_refusing(self.listed.as_slice(), places, c);
         let set = set_at(alloc, self.listed.as_slice(), first)?;
         Ok(set)
     }
@@ -299,8 +299,8 @@ impl Stack {
     pub fn sources(&self, alloc: Global, to: Var) -> Result<List<Var>, NoMemory>
         ensures { IfOk result (λ found. (v : Var) → (Contains found v) ↔ (HasEdge (edges_of self.now.active) v to)) }
     {
-        let places = self.goals.places(alloc, to)?;
-        let owners = owners_at(alloc, self.listed.as_slice(), places.as_slice())?;
+        let places = self.goals.places(to);
+        let owners = owners_at(alloc, self.listed.as_slice(), places)?;
         Ok(List::from_vec(owners))
     }
 
@@ -310,8 +310,8 @@ impl Stack {
         ensures { IfOk result (λ found. (v : Var) → (Contains found v) ↔ (HasEdge (edges_of self.now.active) from v)) }
     {
         let trail = self.values();
-        let places = self.turned(alloc, &trail, from)?;
-        let targets = targets_at(alloc, self.listed.as_slice(), places.as_slice(), from)?;
+        let places = self.watchers.places(from);
+        let targets = yes_targets_at(alloc, self.listed.as_slice(), &trail, places, from)?;
         Ok(List::from_vec(targets))
     }
 

@@ -15,12 +15,14 @@ use Rattle.qualified_goals.specs.SameVariable.{same_var-is}
 use Rattle.choice_problem.specs.ConflictSet.{has}
 use Rattle.goal_links.specs.declared.chains.Cell.{Cell}
 use Rattle.goal_links.specs.Beside.{last_of, first_of}
+use Rattle.goal_links.specs.Ring.{AreOnce}
 use Rattle.goal_links.specs.Row.{has_node, behind}
 use Rattle.goal_links.specs.Chains.{no_cell, cell_at, chain_at, without_last}
 use Rattle.goal_links.specs.Links.{Entries, no_var, var_at, chain_with, registered, with_cell, with_cell_at, lengthened, shortened}
 use Rattle.choice_problem.proofs.EdgePaths.{parted}
 use Rattle.choice_problem.proofs.VariableSets.{contains-has, has-append}
-use Rattle.goal_links.proofs.Paths.{AreOnce, last-end}
+use Rattle.goal_links.specs.Places.{IsInChain, cells_from}
+use Rattle.goal_links.proofs.Paths.{last-end}
 use Rattle.goal_links.proofs.Rings.{has-contains}
 use Rattle.goal_links.proofs.Nodes.{not-in, behind-parted, apart-front}
 use Rattle.goal_links.proofs.Chained.{without-last}
@@ -631,3 +633,27 @@ walk-on s entry once at next k on is then =
     let among : Contains chain k = has-contains chain k (ap (λ n. has_node (chain_at s.chains n) k) (sym owner) ∙ linked) in
     ap (walk_from chain) is
     ∙ ap (λ l. k ∷ l) (sym (walk-next chain k next once among (then ∙ ap (λ n. first_of (behind (Some k) (chain_at s.chains n))) owner)))
+
+-- the places of the mentions of one variable
+
+same-walk : (s : Entries) (entry : ℕ) (o : Option ℕ) → IfSome o (λ k. (cell_at s.cells k).entry ≡ entry) → cells_from s o ≡ walk_from (chain_at s.chains entry) o
+same-walk s entry None owner = refl
+same-walk s entry (Some k) owner = ap (λ e. k ∷ behind (Some k) (chain_at s.chains e)) owner
+
+-- all cells of a chain
+pub all-from : (s : Entries) (entry : ℕ) (o : Option ℕ) → AreOnce None (chain_at s.chains entry) → o ≡ first_of (chain_at s.chains entry)
+    → IfSome o (λ k. (cell_at s.cells k).entry ≡ entry) → cells_from s o ≡ chain_at s.chains entry
+all-from s entry o once e owner = same-walk s entry o owner ∙ walk-first (chain_at s.chains entry) o once e
+
+-- a cell, and those from the next one on
+pub more-from : (s : Entries) (k : ℕ) (next : Option ℕ) → IsInChain s k → next ≡ first_of (behind (Some k) (chain_with s k))
+    → IfSome next (λ n. (cell_at s.cells n).entry ≡ (cell_at s.cells k).entry) → cells_from s (Some k) ≡ k ∷ cells_from s next
+more-from s k next h e owner =
+    let chain = chain_with s k in
+    ap (λ l. k ∷ l) (sym (same-walk s (cell_at s.cells k).entry next owner ∙ walk-next chain k next h.once (has-contains chain k h.linked) e))
+
+pub stays-in-chain : (s : Entries) (entry : ℕ) (o : Option ℕ) → AreOnce None (chain_at s.chains entry) → IfSome o (λ k. k < length s.cells)
+    → IfSome o (λ k. has_node (chain_with s k) k ≡ true) → IfSome o (λ k. (cell_at s.cells k).entry ≡ entry) → IfSome o (IsInChain s)
+stays-in-chain s entry None once within linked owner = tt
+stays-in-chain s entry (Some k) once within linked owner =
+    record { within = within; linked = linked; once = subst (λ e. AreOnce None (chain_at s.chains e)) (sym owner) once }

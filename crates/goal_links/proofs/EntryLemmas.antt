@@ -16,10 +16,11 @@ use Rattle.choice_problem.proofs.VariableSets.{same-not, before-not-same, same-b
 use Rattle.choice_problem.proofs.RisingVariables.{rising-without, has-without}
 use Rattle.choice_problem.proofs.EdgePaths.{parted}
 use Rattle.goal_links.specs.Beside.{last_from, last_of, first_of, beside_from, beside, behind_first}
+use Rattle.goal_links.specs.Ring.{AreOnce}
 use Rattle.goal_links.specs.Row.{Line, has_node, without_node, behind, StandsIn, AreBelow, IsGap, IsParted, with_node, unlinked}
 use Rattle.goal_links.specs.Chains.{Chained, with_chain}
 use Rattle.goal_links.specs.Links.{Entries, no_var, var_at, sides_in, entries_of, AreAround, AreLinks, MayReturn, WasLinked, registered, linked as put, unlinked as taken}
-use Rattle.goal_links.proofs.Paths.{AreOnce, last-contains}
+use Rattle.goal_links.proofs.Paths.{last-contains}
 use Rattle.goal_links.proofs.Rings.{has-contains}
 use Rattle.goal_links.proofs.Nodes.{contains-has as node-has, hasn't, has-itself, behind-front}
 use Rattle.goal_links.proofs.Rows.{place-parted}

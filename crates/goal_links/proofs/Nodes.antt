@@ -4,8 +4,9 @@ use Rattle.std.specs.List.{Contains}
 use Rattle.std.proofs.lemmas.Bool.{false≢true, or_right}
 use Rattle.common_laws.specs.Lists.{contains-head, contains-tail, contains-none, contains-cases, contains-left, contains-right, contains-append, contains-filter}
 use Rattle.goal_links.specs.Beside.{last_from, last_of, first_of, beside_from, behind_first}
+use Rattle.goal_links.specs.Ring.{AreOnce}
 use Rattle.goal_links.specs.Row.{AreBelow, StandsIn, has_node, without_node, behind}
-use Rattle.goal_links.proofs.Paths.{AreOnce, once-start, once-back, once-apart, last-contains}
+use Rattle.goal_links.proofs.Paths.{once-start, once-back, once-apart, last-contains}
 use Rattle.goal_links.proofs.Rings.{has-contains}
 
 pub contains-has : (ns : List ℕ) (n : ℕ) → Contains ns n → has_node ns n ≡ true

@@ -4,7 +4,7 @@ use Rattle.std.specs.List.{Contains}
 use Rattle.common_laws.specs.Lists.{contains-head, contains-tail, contains-none, contains-cases, contains-left, contains-right}
 use Rattle.choice_problem.proofs.EdgePaths.{parted}
 use Rattle.goal_links.specs.Beside.{last_from, first_or}
-use Rattle.goal_links.specs.Ring.{IsPath, same_place, with_place}
+use Rattle.goal_links.specs.Ring.{AreOnce, IsPath, same_place, with_place}
 
 pub last-end : (start : Option ℕ) (xs : List ℕ) (n : ℕ) → last_from start (xs ++ n ∷ []) ≡ Some n
 last-end start [] n = refl
@@ -64,11 +64,6 @@ module _ (next prev : Option ℕ → Option ℕ) (count : ℕ) where
       let len : length xs ≡ length (p.0 ++ k ∷ p.1) = ap length p.2 in
       let shorter : length xs ≡ length p.1 = ap length same in
       omega (arith, len, shorter, length-append p.0 (k ∷ p.1))
-
--- no node of a list is repeated, and the one before the list isn't in it
-abbrev pub AreOnce : Option ℕ → List ℕ → Type 0
-AreOnce start [] = Unit {0}
-AreOnce start (n ∷ ns) = ((k : ℕ) → Contains (n ∷ ns) k → start ≡ Some k → ⊥) × AreOnce (Some n) ns
 
 pub path-once : (next prev : Option ℕ → Option ℕ) (count : ℕ) (start : Option ℕ) (xs : List ℕ) → IsPath next prev count start xs None → AreOnce start xs
 path-once next prev count start [] h = tt

@@ -7,9 +7,9 @@ use Rattle.std.proofs.lemmas.Map.Steps.{length-le_from_distinct_below}
 use Rattle.std.proofs.lemmas.Map.Made.{IsDistinct-from_AllPairs}
 use Rattle.common_laws.specs.Lists.{contains-head, contains-tail, pairs-nil, pairs-cons}
 use Rattle.goal_links.specs.declared.ring.RingNode.{RingNode}
-use Rattle.goal_links.specs.Ring.{IsPath, IsRing, nodes_from, ring_of, next_at, prev_at}
+use Rattle.goal_links.specs.Ring.{AreOnce, IsPath, IsRing, nodes_from, ring_of, next_at, prev_at}
 use Rattle.goal_links.specs.Row.{has_node}
-use Rattle.goal_links.proofs.Paths.{AreOnce, path-once, path-within, once-start}
+use Rattle.goal_links.proofs.Paths.{path-once, path-within, once-start}
 
 pub has-contains : (ns : List ℕ) (n : ℕ) → has_node ns n ≡ true → Contains ns n
 has-contains [] n h = absurd (false≢true h)

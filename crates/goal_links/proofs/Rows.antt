@@ -10,9 +10,9 @@ use Rattle.common_laws.specs.Lists.{contains-head, contains-tail, contains-left,
 use Rattle.choice_problem.proofs.EdgePaths.{parted}
 use Rattle.goal_links.specs.declared.ring.RingNode.{RingNode}
 use Rattle.goal_links.specs.Beside.{last_of, first_of, beside, behind_first}
-use Rattle.goal_links.specs.Ring.{IsPath, IsRing, no_node, ring_of, next_at, prev_at, with_place, IsWithin}
+use Rattle.goal_links.specs.Ring.{AreOnce, IsPath, IsRing, no_node, ring_of, next_at, prev_at, with_place, IsWithin}
 use Rattle.goal_links.specs.Row.{Line, with_node, has_node, without_node, behind, StandsIn, MayReturn, IsGap, kept_from}
-use Rattle.goal_links.proofs.Paths.{AreOnce, last-end, path-parts, path-last, path-first, path-stays, path-more, path-unlinked, path-linked, last-contains, place-other, not-last, not-first}
+use Rattle.goal_links.proofs.Paths.{last-end, path-parts, path-last, path-first, path-stays, path-more, path-unlinked, path-linked, last-contains, place-other, not-last, not-first}
 use Rattle.goal_links.proofs.Rings.{has-contains, ring-once, ring-within, ring-is}
 use Rattle.goal_links.proofs.Nodes.{contains-has, hasn't, not-in, behind-parted, beside-parted, without-parted, has-other, has-itself, apart-front, apart-back, behind-front, in-front, in-back, not-either}
 

@@ -4,3 +4,4 @@ pub mod Row
 pub mod Chains
 pub mod Links
 pub mod Mentions
+pub mod Places

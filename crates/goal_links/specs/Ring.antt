@@ -1,5 +1,6 @@
 -- Rings of nodes: from the ends of a ring to its first node, on from node to node, and back to the ends.
 use Rattle.std.specs.Prelude.{◌≡◌, ℕ, zero, suc, ◌<◌, Bool, true, false, eqb, cond, List, [], ◌∷◌, length, Option, Some, None, slice_index_or}
+use Rattle.std.specs.List.{Contains}
 use Rattle.goal_links.specs.declared.ring.RingNode.{RingNode}
 
 -- the node for a number that no node has
@@ -60,6 +61,11 @@ IsPath next prev count «from» (n ∷ ns) to =
 -- the ring has these nodes, in order
 abbrev pub IsRing : RingNode → List RingNode → List ℕ → Type 0
 IsRing ends nodes ns = IsPath (next_at ends nodes) (prev_at ends nodes) (length nodes) None ns None
+
+-- no node of a list is repeated, and the one before the list isn't in it
+abbrev pub AreOnce : Option ℕ → List ℕ → Type 0
+AreOnce start [] = Unit {0}
+AreOnce start (n ∷ ns) = ((k : ℕ) → Contains (n ∷ ns) k → start ≡ Some k → ⊥) × AreOnce (Some n) ns
 
 -- the nodes from a place on, at most count
 abbrev pub nodes_from : List RingNode → ℕ → Option ℕ → List ℕ

@@ -6,9 +6,11 @@
 mod chains;
 mod links;
 mod mentions;
+mod places;
 mod ring;
 mod row;
 mod vars;
 
 pub use links::Links;
 pub use mentions::{Mention, Mentions};
+pub use places::Places;

@@ -1,14 +1,15 @@
 // Mentions of variables by demands. Those of one variable are a chain.
 ghost use Rattle.std.specs.Prelude.{◌≡◌, ◌+◌, ◌<◌, ◌≤◌, ◌++◌, List, [], ◌∷◌, Some, false, IsTrue, IfSome, MatchOption};
-ghost use Rattle.std.specs.Prelude.{IfOk, OnOk, OnErr, length, take, drop, map, slice_get, slice_index_or};
+ghost use Rattle.std.specs.Prelude.{IfOk, OnOk, OnErr, length, take, drop, slice_get, slice_index_or};
 ghost use Rattle.std.specs.Option.{option_map};
 ghost use Rattle.choice_problem.specs.ConflictSet.{has, is_rising};
 ghost use Rattle.goal_links.specs.Beside.{first_of};
 ghost use Rattle.goal_links.specs.Chains.{chain_at};
 ghost use Rattle.goal_links.specs.Links.{Entries, MayReturn, WasLinked, linked, unlinked, var_at, vars_behind};
-ghost use Rattle.goal_links.specs.Mentions.{KeepRow, indices_on, place_at, places_on, vars_at};
+ghost use Rattle.goal_links.specs.Mentions.{KeepRow, indices_on, places_on, vars_at};
 
 use crate::links::Links;
+use crate::places::Places;
 use choice_problem::Var;
 use plan_types::NoMemory;
 use std::alloc::Global;
@@ -80,14 +81,13 @@ impl Mentions {
     }
 
     /// The places of the demands that mention a variable.
-    pub fn places(&self, alloc: Global, v: Var) -> Result<Vec<usize>, NoMemory>
-        ensures { IfOk result (λ found. found.items ≡ places_on v self.now.said) }
+    pub fn places(&self, v: Var) -> Places<'_>
+        ensures { result ≡ places_on v self.now.said }
     {
-        let Some(entry) = self.links.entry_of(v) else {
-            return Ok(Vec::new(alloc));
-        };
-        let found = self.places_in(alloc, entry)?;
-        Ok(found)
+        match self.links.entry_of(v) {
+            Some(entry) => Places::of(&self.links, entry),
+            None => Places::none(&self.links),
+        }
     }
 
     /// The indices of the mentions of a variable.
@@ -267,23 +267,6 @@ impl Mentions {
 }
 
 impl Mentions {
-    // The places of the cells of an entry's chain.
-    fn places_in(&self, alloc: Global, entry: u64) -> Result<Vec<usize>, NoMemory>
-        requires { entry < length self.now.row.vars }
-        ensures { IfOk result (λ found.
-            found.items ≡ map (place_at self.now.row.cells) (chain_at self.now.row.chains entry)) }
-    {
-        let links = &self.links;
-        let mut found = Vec::new(alloc);
-        let mut at = links.chain_first(entry);
-        while let Some(cell) = at {
-            let place = links.demand_of(cell);
-            found.push(place as usize)?;
-            at = links.chain_next(cell);
-        }
-        Ok(found)
-    }
-
     // The numbers of the cells of an entry's chain.
     fn cells_in(&self, alloc: Global, entry: u64) -> Result<Vec<usize>, NoMemory>
         requires { entry < length self.now.row.vars }

@@ -15,16 +15,16 @@ use Rattle.choice_stack.proofs.stack.Stack.sources.Goals as goal
 pub owners_at-requires : goal.owners_at-requires
 owners_at-requires c =
     let s = c.self.inside in
-    places-below c.args.to s.listed.items c.as_slice.result.now s.goals.said c.as_slice-2.result.now (marks-targets c.self.invariant.levels) c.as_slice.ensures.value
-    (c.as_slice-2.ensures.value ∙ c.in_ok-places.ensures)
+    places-below c.args.to s.listed.items c.as_slice.result.now s.goals.said c.places-places.result (marks-targets c.self.invariant.levels) c.as_slice.ensures.value
+    c.places-places.ensures
 
 pub returns : goal.returns
 returns c v =
     let s = c.self.inside in
     let targets = marks-targets c.self.invariant.levels in
     let found : c.from_vec.result ≡ owners_of (demands_at s.listed.items (places_on c.args.to s.goals.said)) =
-    c.from_vec.ensures ∙ c.in_ok-owners.ensures ∙ ap (λ (ds : List Demand). owners_of (demands_at ds c.as_slice-2.result.now)) c.as_slice.ensures.value
-    ∙ ap (λ (ps : List ℕ). owners_of (demands_at s.listed.items ps)) (c.as_slice-2.ensures.value ∙ c.in_ok-places.ensures) in (
+    c.from_vec.ensures ∙ c.in_ok-owners.ensures ∙ ap (λ (ds : List Demand). owners_of (demands_at ds c.places-places.result)) c.as_slice.ensures.value
+    ∙ ap (λ (ps : List ℕ). owners_of (demands_at s.listed.items ps)) c.places-places.ensures in (
       λ h. subst (λ (x : View). HasEdge (edges_of x.active) v c.args.to) c.self.view_is
           (sources-edge s.listed.items s.goals.said c.args.to v targets (subst (λ (vs : List Var). Contains vs v) found h)),
       λ h. subst (λ (vs : List Var). Contains vs v) (sym found)

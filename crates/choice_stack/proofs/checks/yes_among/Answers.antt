@@ -1,5 +1,0 @@
-use Rattle.choice_stack.proofs.DemandPlaces.{below-at}
-use Rattle.choice_stack.proofs.checks.yes_among.Goals as goal
-
-pub demand_in-requires : goal.demand_in-requires
-demand_in-requires c = below-at _ c.args.places.now c.loop-place.place-index c.requires c.loop-place-test.true
