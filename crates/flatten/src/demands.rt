@@ -18,6 +18,13 @@ use plan_types::{
 };
 use std::alloc::Global;
 
+/// A component, and the paths on which it is built.
+#[derive(Drop)]
+struct BuiltComponent<'a> {
+    component: &'a Component,
+    ways: &'a Ways,
+}
+
 /// One demand for each path of each dependency on another package, in file order. The first dependency with more than
 /// 256 paths is refused, at its line.
 pub fn demands_of(alloc: Global, d: &Description, env: &Env) -> Result<List<FlatDep>, Fault>
@@ -47,7 +54,11 @@ fn push_component(
 {
     if asks_others(component) {
         let ways = ways_to_build(alloc, component, env)?;
-        push_outward(alloc, flat, component, &ways, env)?;
+        let built = BuiltComponent {
+            component,
+            ways: &ways,
+        };
+        push_outward(alloc, flat, &built, env)?;
     }
     Ok(())
 }
@@ -87,21 +98,20 @@ fn ways_to_build(alloc: Global, component: &Component, env: &Env) -> Result<Ways
 fn push_outward(
     alloc: Global,
     flat: &mut List<FlatDep>,
-    component: &Component,
-    ways: &Ways,
+    built: &BuiltComponent<'_>,
     env: &Env,
 ) -> Result<(), Fault>
-    requires { ways.now ≡ ways_of env.now component.now.buildable }
-    ensures none_beyond { OnOk result (first_among env.now (outward_in component.now) ≡ None) }
+    requires { built.now.ways.now ≡ ways_of env.now built.now.component.now.buildable }
+    ensures none_beyond { OnOk result (first_among env.now (outward_in built.now.component.now) ≡ None) }
     ensures demands { OnOk result (flat.new
-        ≡ flat.old ++ flat_map (demands_at env.now) (outward_in component.now)) }
+        ≡ flat.old ++ flat_map (demands_at env.now) (outward_in built.now.component.now)) }
     ensures refused { IfErr result (RefusesAt (λ line cause. (cause ≡ TooManyPaths)
-        × (first_among env.now (outward_in component.now) ≡ Some line))) }
+        × (first_among env.now (outward_in built.now.component.now) ≡ Some line))) }
 {
-    let (conds, groups) = component.deps.tabled();
+    let (conds, groups) = built.component.deps.tabled();
     let outlooks = outlooks(alloc, conds, env)?;
     for group in groups {
-        push_group(alloc, flat, component, ways, group, &outlooks, env)?;
+        push_group(alloc, flat, built, group, &outlooks, env)?;
     }
     Ok(())
 }
@@ -110,19 +120,19 @@ fn push_outward(
 fn push_group(
     alloc: Global,
     flat: &mut List<FlatDep>,
-    component: &Component,
-    ways: &Ways,
+    built: &BuiltComponent<'_>,
     group: &DepGroup,
     outlooks: &[Outlook],
     env: &Env,
 ) -> Result<(), Fault>
-    requires ways { ways.now ≡ ways_of env.now component.now.buildable }
+    requires ways { built.now.ways.now ≡ ways_of env.now built.now.component.now.buildable }
     requires known { IsOutlookAt env.now group.now.when outlooks.now group.now.number }
-    ensures none_beyond { OnOk result (first_among env.now (outward_among component.now (of_group group.now)) ≡ None) }
+    ensures none_beyond { OnOk result (first_among env.now
+        (outward_among built.now.component.now (of_group group.now)) ≡ None) }
     ensures demands { OnOk result (flat.new
-        ≡ flat.old ++ flat_map (demands_at env.now) (outward_among component.now (of_group group.now))) }
+        ≡ flat.old ++ flat_map (demands_at env.now) (outward_among built.now.component.now (of_group group.now))) }
     ensures refused { IfErr result (RefusesAt (λ line cause. (cause ≡ TooManyPaths)
-        × (first_among env.now (outward_among component.now (of_group group.now)) ≡ Some line))) }
+        × (first_among env.now (outward_among built.now.component.now (of_group group.now)) ≡ Some line))) }
 {
     if !has_others(group) {
         return Ok(());
@@ -130,7 +140,7 @@ fn push_group(
     let met = ways_of(alloc, group.when.get(), outlooks, group.number, env)?;
     for dep in group.deps.as_slice() {
         if !dep.get().internal {
-            push_demands(alloc, flat, component.kind, ways, &met, dep)?;
+            push_demands(alloc, flat, built.component.kind, built.ways, &met, dep)?;
         }
     }
     Ok(())

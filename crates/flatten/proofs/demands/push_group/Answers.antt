@@ -14,16 +14,16 @@ use Rattle.flatten.proofs.demands.push_group.Goals as goal
 
 pub returns-then-not-has_others-clause-none_beyond : goal.returns-then-not-has_others-clause-none_beyond
 returns-then-not-has_others-clause-none_beyond c =
-    ap (first_among c.args.env.now) (none-other c.args.component.now c.args.group.now.when c.args.group.now.deps (sym c.has_others.ensures ∙ c.if-not-has_others.true))
+    ap (first_among c.args.env.now) (none-other c.args.built.now.component.now c.args.group.now.when c.args.group.now.deps (sym c.has_others.ensures ∙ c.if-not-has_others.true))
 
 pub returns-then-not-has_others-clause-demands : goal.returns-then-not-has_others-clause-demands
 returns-then-not-has_others-clause-demands c =
-    sym (ap (λ all. c.args.flat.now ++ flat_map (demands_at c.args.env.now) all) (none-other c.args.component.now c.args.group.now.when c.args.group.now.deps (sym c.has_others.ensures ∙ c.if-not-has_others.true)) ∙ append-nil c.args.flat.now)
+    sym (ap (λ all. c.args.flat.now ++ flat_map (demands_at c.args.env.now) all) (none-other c.args.built.now.component.now c.args.group.now.when c.args.group.now.deps (sym c.has_others.ensures ∙ c.if-not-has_others.true)) ∙ append-nil c.args.flat.now)
 
 pub loop-dep-preserved : goal.loop-dep-preserved
 loop-dep-preserved c =
     let env = c.args.env.now in
-    let component = c.args.component.now in
+    let component = c.args.built.now.component.now in
     let when = c.args.group.now.when in
     let here : Dep → GuardedDep = λ dep. record { when = when; dep = dep } in
     let items = c.as_slice-dep-items.result.now in
@@ -59,7 +59,7 @@ loop-dep-preserved c =
 pub returns-in_err-push_demands-clause-refused : goal.returns-in_err-push_demands-clause-refused
 returns-in_err-push_demands-clause-refused c =
     let env = c.args.env.now in
-    let component = c.args.component.now in
+    let component = c.args.built.now.component.now in
     let when = c.args.group.now.when in
     let here : Dep → GuardedDep = λ dep. record { when = when; dep = dep } in
     let items = c.as_slice-dep-items.result.now in

@@ -23,7 +23,7 @@ push_group-requires-clause-known c =
 pub loop-group-preserved : goal.loop-group-preserved
 loop-group-preserved c =
     let env = c.args.env.now in
-    let component = c.args.component.now in
+    let component = c.args.built.now.component.now in
     let items = c.tabled.result.1.now in
     let group = c.group-item.result in
     let own = outward_among component (of_group group) in
@@ -43,7 +43,7 @@ loop-group-preserved c =
 pub returns-in_err-push_group-clause-refused : goal.returns-in_err-push_group-clause-refused
 returns-in_err-push_group-clause-refused c =
     let env = c.args.env.now in
-    let component = c.args.component.now in
+    let component = c.args.built.now.component.now in
     let items = c.tabled.result.1.now in
     let group = c.group-item.result in
     let more = in_groups (drop (c.loop-group.group-index + 1) items) in
