@@ -110,10 +110,10 @@ ItemAdds env item chain left old new =
     (behind : Tree) (more : List ProjectPart) → Says env behind left more → Goes (λ said. Says env (in_front item behind) chain said) old new more
 
 -- the same for the parts of a section
-abbrev pub SectionAdds : Env → SectionWord → ℕ → List ℕ → List ℕ → List Element → Option Bool → Option Bool → List ProjectPart → List ProjectPart → Type 0
-SectionAdds env word line name args items chain left old new =
+abbrev pub SectionAdds : Env → ℕ → List ℕ → List ℕ → List Element → Option Bool → Option Bool → List ProjectPart → List ProjectPart → Type 0
+SectionAdds env line name args items chain left old new =
     (behind : Tree) (more : List ProjectPart) → Says env behind left more →
-    Goes (λ said. SectionSays env word line name args (tree_of items) chain (λ within. SaysAll env items within) (λ left said. Says env behind left said) said) old new more
+    Goes (λ said. SectionSays env (section_word name) line name args (tree_of items) chain (λ within. SaysAll env items within) (λ left said. Says env behind left said) said) old new more
 
 -- the flags of an element in a `package` section were appended: followed by those after it, they are all flags
 abbrev pub FlagsAdded : List ℕ → Element → List ProjectPart → List ProjectPart → Type 0

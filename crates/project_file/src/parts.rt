@@ -11,6 +11,15 @@ use crate::words::{ProjectBranchWord, SectionWord, section_word};
 use plan_types::{Cause, Element, Env, List, NoMemory, Text};
 use std::alloc::Global;
 
+/// The fields of an `Element::Section`.
+#[derive(Drop)]
+struct SectionElement<'a> {
+    line: u32,
+    name: &'a Text,
+    args: &'a Text,
+    items: &'a List<Element>,
+}
+
 /// The parts that the elements of a file become.
 pub(crate) fn read_parts(
     alloc: Global,
@@ -63,18 +72,13 @@ fn read_item(
             args,
             items,
         } => {
-            let word = section_word(name.as_str());
-            let left = read_section(
-                alloc,
-                env,
-                word,
-                *line,
+            let section = SectionElement {
+                line: *line,
                 name,
                 args,
-                items.as_slice(),
-                chain,
-                parts,
-            )?;
+                items,
+            };
+            let left = read_section(alloc, env, &section, chain, parts)?;
             Ok(left)
         }
     }
@@ -97,34 +101,31 @@ fn place(
 fn read_section(
     alloc: Global,
     env: &Env,
-    word: SectionWord,
-    line: u32,
-    name: &Text,
-    args: &Text,
-    items: &[Element],
+    section: &SectionElement<'_>,
     chain: Option<bool>,
     parts: &mut List<ProjectPart>,
 ) -> Result<Option<bool>, NoMemory>
-    ensures { IfOk result
-        (λ left. SectionAdds env.now word line name.now args.now items.now chain left parts.old parts.new) }
+    ensures { IfOk result (λ left. SectionAdds env.now section.now.line section.now.name.now section.now.args.now
+        section.now.items.now chain left parts.old parts.new) }
 {
-    match word {
+    let line = section.line;
+    match section_word(section.name.as_str()) {
         SectionWord::Unread => Ok(None),
         SectionWord::Unsupported => {
             place(line, Some(ProjectSaid::Bad(Cause::Unsupported)), parts)?;
             Ok(None)
         }
         SectionWord::Warned => {
-            let name = name.copy()?;
+            let name = section.name.copy()?;
             place(line, Some(ProjectSaid::Warning(name)), parts)?;
             Ok(None)
         }
         SectionWord::Package => {
-            read_package(alloc, line, args, items, parts)?;
+            read_package(alloc, line, section.args, section.items.as_slice(), parts)?;
             Ok(None)
         }
         SectionWord::Branch(word) => {
-            let left = read_branch(alloc, env, word, line, args, items, chain, parts)?;
+            let left = read_branch(alloc, env, word, section, chain, parts)?;
             Ok(left)
         }
     }
@@ -135,18 +136,17 @@ fn read_branch(
     alloc: Global,
     env: &Env,
     word: ProjectBranchWord,
-    line: u32,
-    args: &Text,
-    items: &[Element],
+    section: &SectionElement<'_>,
     chain: Option<bool>,
     parts: &mut List<ProjectPart>,
 ) -> Result<Option<bool>, NoMemory>
-    ensures { IfOk result (λ left.
-        Adds (IsBranch env.now word line args.now chain (SaysAll env.now items.now) left) parts.old parts.new) }
+    ensures { IfOk result (λ left. Adds (IsBranch env.now word section.now.line section.now.args.now chain
+        (SaysAll env.now section.now.items.now) left) parts.old parts.new) }
 {
-    let own = own_condition(alloc, env, word, args)?;
-    place(line, branch_fault(word, chain, own), parts)?;
-    read_taken(alloc, env, is_taken(word, chain, own), items, parts)?;
+    let own = own_condition(alloc, env, word, section.args)?;
+    place(section.line, branch_fault(word, chain, own), parts)?;
+    let taken = is_taken(word, chain, own);
+    read_taken(alloc, env, taken, section.items.as_slice(), parts)?;
     Ok(chain_behind(word, chain, own))
 }
 
