@@ -34,6 +34,13 @@ pub struct Readings {
     pub found: List<FoundName>,
 }
 
+/// What is read before the index.
+#[derive(Drop)]
+struct ReadFirst {
+    locals: Locals,
+    counted: Counted,
+}
+
 /// Reads the local files at these paths, then the unit records, then the releases of the closure. The closure begins
 /// with the names of the local packages and the extra packages.
 pub fn read_index_files<F: Folder>(
@@ -51,7 +58,11 @@ pub fn read_index_files<F: Folder>(
 {
     let locals = read_locals(alloc, paths.as_slice(), env, folder)?;
     let read = read_units(alloc, places, folder)?;
-    let readings = read_indexed(alloc, locals, read, extra, places, env, folder)?;
+    let first = ReadFirst {
+        locals,
+        counted: read,
+    };
+    let readings = read_indexed(alloc, first, extra, places, env, folder)?;
     Ok(readings)
 }
 
@@ -103,19 +114,19 @@ fn is_record(name: &Name) -> bool
 
 fn read_indexed<F: Folder>(
     alloc: Global,
-    locals: Locals,
-    counted: Counted,
+    first: ReadFirst,
     extra: &List<Named>,
     places: &Places,
     env: &Env,
     folder: &mut F,
 ) -> Result<Readings, Halt>
     ensures observed { IfSome (F.tells folder.old) (λ files. Answers
-        (AreIndexed (ground_from env.now places.now locals counted.units extra.now) counted.totals.files
-        counted.totals.bytes files) result) }
-    ensures kept { IfOk result (AreOverGround (ground_from env.now places.now locals counted.units extra.now)) }
+        (AreIndexed (ground_from env.now places.now first.locals first.counted.units extra.now)
+        first.counted.totals.files first.counted.totals.bytes files) result) }
+    ensures kept { IfOk result (AreOverGround (ground_from env.now places.now first.locals first.counted.units extra.now)) }
     ensures folder { Leaves F.tells F.faults folder.old folder.new (IsErrOf result Halt.Failed) }
 {
+    let ReadFirst { locals, counted } = first;
     let Counted { units, totals } = counted;
     let needed = MentionedNames::of(alloc, &units)?;
     let before = ReadBefore {

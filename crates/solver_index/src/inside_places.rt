@@ -14,6 +14,7 @@ use crate::place_runs::PlaceRuns;
 use crate::range_bounds::push_bounds;
 use plan_types::{Entry, List, NoMemory, Range};
 use std::alloc::Global;
+use std::ops;
 use version_range::Cuts;
 
 /// The places of the instances whose versions are inside the cuts of a range. Binary search finds the places at which
@@ -33,8 +34,8 @@ pub(crate) fn places_inside(
     let count = entries.len();
     let releases = first_without(Test::IsSource, range, entries, 0, count);
     let mut found = PlaceRuns::new(alloc);
-    push_block(alloc, &mut found, cuts, range, entries, 0, releases)?;
-    push_block(alloc, &mut found, cuts, range, entries, releases, count)?;
+    push_block(alloc, &mut found, cuts, range, entries, 0..releases)?;
+    push_block(alloc, &mut found, cuts, range, entries, releases..count)?;
     Ok(found)
 }
 
@@ -44,20 +45,26 @@ fn push_block(
     cuts: &Cuts,
     range: &Range,
     entries: &[Entry],
-    from: usize,
-    to: usize,
+    block: ops::Range<usize>,
 ) -> Result<(), NoMemory>
-    requires block { IsBlock entries.now from to }
+    requires block { IsBlock entries.now block.start block.end }
     requires versions { has_versions range.now ≡ true }
     requires follows { IsConstantWhere (members range.now) (inside cuts.now) }
     ensures { OnOk result (found.new ≡ found.old ++ filter (λ i. inside cuts.now (version_at entries.now i))
-        (between from to)) }
+        (between block.start block.end)) }
 {
     let mut bounds = List::new(alloc);
-    push_bounds(&mut bounds, range, entries, from, to)?;
+    push_bounds(&mut bounds, range, entries, block.start, block.end)?;
     let mut bounds = bounds.into_vec();
     bounds.sort_unstable();
-    push_segments(found, cuts, bounds.as_slice(), entries, from, to)
+    push_segments(
+        found,
+        cuts,
+        bounds.as_slice(),
+        entries,
+        block.start,
+        block.end,
+    )
 }
 
 fn push_segments(
