@@ -1,5 +1,5 @@
 use Rattle.std.proofs.Common.{◌≡◌, ◌∷◌, ◌∙◌, ℕ, List, Option, Some, map, length, sym, ap, subst, arith}
-use Rattle.core.specs.ControlFlow.{continue_value}
+use Rattle.std.specs.ControlFlow.{continue_value}
 use Rattle.std.specs.Option.{IfSome}
 use Rattle.goal_links.specs.Mentions.{place_at}
 use Rattle.goal_links.specs.Places.{IsInChain, places_from}
