@@ -1,7 +1,8 @@
 // Queries on demands under the choices so far.
-ghost use Rattle.std.specs.Prelude.{◌≡◌, ◌<◌, ◌++◌, List, Some, None, IfSome, IfOk, OnOk};
+ghost use Rattle.std.specs.Prelude.{◌≡◌, ◌<◌, ◌++◌, ◌&&◌, List, Some, None, IfSome, IfOk, OnOk};
 ghost use Rattle.std.specs.Prelude.{[], cond, length, filter, find, option_to_list};
 ghost use Rattle.std.specs.Option.{option_map};
+ghost use Rattle.std.specs.List.{list_all};
 ghost use Rattle.choice_problem.specs.declared.problem.Demand.{Demand};
 ghost use Rattle.choice_problem.specs.Assignment.{is_made, is_yes};
 ghost use Rattle.choice_problem.specs.Active.{vars_of, vars_of_first};
@@ -137,7 +138,7 @@ pub(crate) fn yes_among(
 fn is_yes(trail: &Values<'_>, d: &Demand) -> bool
     ensures { result ≡ is_yes (value_in trail.now) d.now }
 {
-    d.when.as_slice().iter().all(|c| is_made(trail, *c))
+    are_made(trail, d.when.as_slice())
 }
 
 fn is_made(trail: &Values<'_>, c: Choice) -> bool
@@ -290,26 +291,51 @@ pub(crate) fn yes_targets_at(
         (demands_at listed.now (filter (λ k. is_yes (value_in trail.now) (demand_at listed.now k)) places.entry))) }
 {
     let mut targets = Vec::new(alloc);
+    let value = trail.value_of(owner);
     for place in places {
-        push_yes_target(&mut targets, demand_in(listed, place), trail, owner)?;
+        push_yes_target(&mut targets, demand_in(listed, place), trail, owner, value)?;
     }
     Ok(targets)
 }
 
-// Whether the variable owns the demand is tested first, since that is cheaper.
 fn push_yes_target(
     targets: &mut Vec<Var>,
     demand: &Demand,
     trail: &Values<'_>,
     owner: Var,
+    value: Option<u64>,
 ) -> Result<(), NoMemory>
+    requires { value ≡ value_in trail.now owner }
     ensures { OnOk result (targets.new.items
         ≡ targets.old.items ++ cond (is_yes (value_in trail.now) demand.now) (target_by owner demand.now) []) }
 {
-    if is_owned_by(demand, owner) && is_yes(trail, demand) {
+    if is_owned_and_yes(demand, trail, owner, value) {
         targets.push(demand.target)?;
     }
     Ok(())
+}
+
+// The owner's value is looked up once for all demands.
+fn is_owned_and_yes(demand: &Demand, trail: &Values<'_>, owner: Var, value: Option<u64>) -> bool
+    requires { value ≡ value_in trail.now owner }
+    ensures { result ≡ (is_owned_by owner demand.now && is_yes (value_in trail.now) demand.now) }
+{
+    let [first, others @ ..] = demand.when.as_slice() else {
+        return false;
+    };
+    if !is_same(first.var, owner) {
+        return false;
+    }
+    match value {
+        Some(n) => n == first.val && are_made(trail, others),
+        None => false,
+    }
+}
+
+fn are_made(trail: &Values<'_>, choices: &[Choice]) -> bool
+    ensures { result ≡ list_all (is_made (value_in trail.now)) choices.now }
+{
+    choices.iter().all(|c| is_made(trail, *c))
 }
 
 fn is_owned_by(demand: &Demand, owner: Var) -> bool
