@@ -60,7 +60,7 @@ impl Goals {
         self.mentions.at(index)
     }
 
-    pub(crate) fn entry_at(&self, index: usize) -> u64
+    pub(crate) fn entry_at(&self, index: usize) -> usize
         requires { index < length self.now.said + length self.now.spare }
         ensures { (m : Mention) → slice_get (self.now.said ++ self.now.spare) index ≡ Some m
             → slice_get self.now.row.vars result ≡ Some m.var }
@@ -74,7 +74,7 @@ impl Goals {
         self.mentions.names(v)
     }
 
-    pub(crate) fn names_entry(&self, entry: u64) -> bool
+    pub(crate) fn names_entry(&self, entry: usize) -> bool
         requires { entry < length self.now.row.vars }
         ensures { result ≡ has (vars_at self.now.said) (var_at self.now.row.vars entry) }
     {
@@ -136,7 +136,7 @@ impl Goals {
 
 // The open variables.
 impl Goals {
-    pub(crate) fn var_of(&self, entry: u64) -> Var
+    pub(crate) fn var_of(&self, entry: usize) -> Var
         requires { entry < length self.now.row.vars }
         ensures { result ≡ var_at self.now.row.vars entry }
     {
@@ -144,7 +144,7 @@ impl Goals {
     }
 
     /// Opens the variable of an entry.
-    pub(crate) fn add(&mut self, entry: u64)
+    pub(crate) fn add(&mut self, entry: usize)
         requires entry { entry < length self.old.row.vars }
         requires closed { has self.old.row.linked (var_at self.old.row.vars entry) ≡ false }
         ensures said { self.new.said ≡ self.old.said }
@@ -157,7 +157,7 @@ impl Goals {
     }
 
     /// The entry of an open variable.
-    pub(crate) fn entry(&self, v: Var) -> u64
+    pub(crate) fn entry(&self, v: Var) -> usize
         requires { IsTrue (has self.now.row.linked v) }
         ensures { slice_get self.now.row.vars result ≡ Some v }
     {
@@ -165,7 +165,7 @@ impl Goals {
     }
 
     /// Unlinks an open variable. Its entry keeps its neighbours.
-    pub(crate) fn take_out(&mut self, entry: u64)
+    pub(crate) fn take_out(&mut self, entry: usize)
         requires entry { entry < length self.old.row.vars }
         requires open { IsTrue (has self.old.row.linked (var_at self.old.row.vars entry)) }
         ensures said { self.new.said ≡ self.old.said }
@@ -180,7 +180,7 @@ impl Goals {
     }
 
     /// Relinks a variable where it was unlinked.
-    pub(crate) fn put_back(&mut self, entry: u64)
+    pub(crate) fn put_back(&mut self, entry: usize)
         requires { MayComeBack self.old.row entry }
         ensures said { self.new.said ≡ self.old.said }
         ensures linked { (u : Var) → has self.new.row.linked u
@@ -217,7 +217,7 @@ impl Goals {
         self.var_at(next)
     }
 
-    fn var_at(&self, entry: Option<u64>) -> Option<Var>
+    fn var_at(&self, entry: Option<usize>) -> Option<Var>
         requires { IfSome entry (λ n. n < length self.now.row.vars) }
         ensures { result ≡ option_map (var_at self.now.row.vars) entry }
     {

@@ -35,7 +35,7 @@ pub(crate) struct Mark {
     pub(crate) listed: usize,
     pub(crate) watchers: usize,
     pub(crate) active: usize,
-    pub(crate) entry: u64,
+    pub(crate) entry: usize,
 }
 
 /// Choices, with their listed demands. Some of these are active.

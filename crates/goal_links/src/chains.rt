@@ -15,7 +15,7 @@ use std::marker::Model;
 #[derive(Clone, Copy, Debug, Drop)]
 pub(crate) struct Cell {
     pub(crate) entry: usize,
-    pub(crate) demand: u64,
+    pub(crate) demand: usize,
 }
 
 /// Cells by number. Some cells of an entry are linked in its chain.
@@ -95,7 +95,7 @@ impl Chains {
         self.cells[cell].entry
     }
 
-    pub(crate) fn demand(&self, cell: usize) -> u64
+    pub(crate) fn demand(&self, cell: usize) -> usize
         requires { cell < length self.now.cells }
         ensures { result ≡ (cell_at self.now.cells cell).demand }
     {

@@ -64,26 +64,23 @@ impl Links {
     }
 
     /// The entry of a variable, if it is registered.
-    pub fn entry_of(&self, v: Var) -> Option<u64>
+    pub fn entry_of(&self, v: Var) -> Option<usize>
         ensures entry { MatchOption result (has self.now.vars v ≡ false)
             (λ entry. slice_get self.now.vars entry ≡ Some v) }
         ensures one { HaveOneEntry self.now.vars }
     {
-        match self.vars.find(v) {
-            Some(entry) => Some(entry as u64),
-            None => None,
-        }
+        self.vars.find(v)
     }
 
     /// The entry of a variable, the same at each call. A new one isn't linked, and its chain is empty.
-    pub fn register(&mut self, v: Var) -> Result<u64, NoMemory>
+    pub fn register(&mut self, v: Var) -> Result<usize, NoMemory>
         ensures ok { OnOk result (self.new ≡ registered self.old v) }
         ensures entry { IfOk result (λ entry. slice_get self.new.vars entry ≡ Some v) }
         ensures new { OnOk result (has self.old.vars v ≡ false → has self.new.linked v ≡ false) }
         ensures err { OnErr result (self.new ≡ self.old) }
     {
         if let Some(entry) = self.vars.find(v) {
-            return Ok(entry as u64);
+            return Ok(entry);
         }
         let entry = self.vars.len();
         self.vars.add(v)?;
@@ -96,73 +93,69 @@ impl Links {
             self.vars.cut(entry);
             return Err(NoMemory);
         }
-        Ok(entry as u64)
+        Ok(entry)
     }
 
     /// A new cell of an entry, outside its chain.
-    pub fn register_cell(&mut self, entry: u64, demand: u64) -> Result<u64, NoMemory>
+    pub fn register_cell(&mut self, entry: usize, demand: usize) -> Result<usize, NoMemory>
         requires { entry < length self.old.vars }
         ensures ok { OnOk result (self.new ≡ with_cell self.old (record { entry = entry; demand = demand })) }
         ensures cell { IfOk result (λ cell. cell ≡ length self.old.cells) }
         ensures new { IfOk result (λ cell. has_node (chain_at self.old.chains entry) cell ≡ false) }
         ensures err { OnErr result (self.new ≡ self.old) }
     {
-        let entry = entry as usize;
-        let cell = self.chains.add_cell(Cell { entry, demand })?;
-        Ok(cell as u64)
+        self.chains.add_cell(Cell { entry, demand })
     }
 
     /// The number of cells.
-    pub fn cell_count(&self) -> u64
+    pub fn cell_count(&self) -> usize
         ensures { result ≡ length self.now.cells }
     {
-        self.chains.len() as u64
+        self.chains.len()
     }
 
     /// Replaces a cell outside its chain by a cell of this entry and demand.
-    pub fn set_cell(&mut self, cell: u64, entry: u64, demand: u64)
+    pub fn set_cell(&mut self, cell: usize, entry: usize, demand: usize)
         requires cell { cell < length self.old.cells }
         requires entry { entry < length self.old.vars }
         requires outside { has_node (chain_with self.old cell) cell ≡ false }
         ensures { self.new ≡ with_cell_at self.old cell (record { entry = entry; demand = demand }) }
     {
-        let entry = entry as usize;
-        self.chains.set_cell(cell as usize, Cell { entry, demand });
+        self.chains.set_cell(cell, Cell { entry, demand });
     }
 
     /// The variable of an entry.
-    pub fn var_of(&self, entry: u64) -> Var
+    pub fn var_of(&self, entry: usize) -> Var
         requires { entry < length self.now.vars }
         ensures { result ≡ var_at self.now.vars entry }
     {
-        self.vars.at(entry as usize)
+        self.vars.at(entry)
     }
 
     /// The entry of a cell.
-    pub fn owner_of(&self, cell: u64) -> u64
+    pub fn owner_of(&self, cell: usize) -> usize
         requires { cell < length self.now.cells }
         ensures { result ≡ (cell_at self.now.cells cell).entry }
     {
-        self.chains.entry(cell as usize) as u64
+        self.chains.entry(cell)
     }
 
     /// The demand of a cell.
-    pub fn demand_of(&self, cell: u64) -> u64
+    pub fn demand_of(&self, cell: usize) -> usize
         requires { cell < length self.now.cells }
         ensures { result ≡ (cell_at self.now.cells cell).demand }
     {
-        self.chains.demand(cell as usize)
+        self.chains.demand(cell)
     }
 }
 
 impl Links {
     /// Links an entry at its place in goal order.
-    pub fn link(&mut self, entry: u64)
+    pub fn link(&mut self, entry: usize)
         requires entry { entry < length self.old.vars }
         requires new { has self.old.linked (var_at self.old.vars entry) ≡ false }
         ensures { self.new ≡ linked self.old entry }
     {
-        let entry = entry as usize;
         let v = self.vars.at(entry);
         let place = place_before(&self.vars, &self.row, self.recent, v);
         self.row.link(place, entry);
@@ -170,70 +163,69 @@ impl Links {
     }
 
     /// Unlinks an entry. It keeps its neighbours.
-    pub fn unlink(&mut self, entry: u64)
+    pub fn unlink(&mut self, entry: usize)
         requires entry { entry < length self.old.vars }
         requires linked { IsTrue (has self.old.linked (var_at self.old.vars entry)) }
         ensures unlinked { self.new ≡ unlinked self.old entry }
         ensures kept { slice_get self.old.kept entry ≡ Some None }
         ensures rising { IsTrue (is_rising self.old.linked) }
     {
-        let entry = entry as usize;
         self.recent = recent_without(&self.row, self.recent, entry);
         self.row.unlink(entry);
     }
 
     /// Links an entry between the neighbours that it keeps.
-    pub fn relink(&mut self, entry: u64)
+    pub fn relink(&mut self, entry: usize)
         requires { MayReturn self.old entry }
         ensures linked { self.new ≡ linked self.old entry }
         ensures back { (before : Entries) → self.old ≡ unlinked before entry → WasLinked before entry
             → self.new ≡ before }
     {
-        self.row.relink(entry as usize);
+        self.row.relink(entry);
     }
 
     /// The first linked entry in goal order.
-    pub fn first(&self) -> Option<u64>
+    pub fn first(&self) -> Option<usize>
         ensures first { option_map (var_at self.now.vars) result ≡ first_of self.now.linked }
         ensures within { IfSome result (λ entry. entry < length self.now.vars) }
         ensures linked { IfSome result (λ entry. IsTrue (has self.now.linked (var_at self.now.vars entry))) }
     {
-        number(self.row.next(None))
+        self.row.next(None)
     }
 
     /// The next linked entry.
-    pub fn next(&self, entry: u64) -> Option<u64>
+    pub fn next(&self, entry: usize) -> Option<usize>
         requires entry { entry < length self.now.vars }
         requires linked { IsTrue (has self.now.linked (var_at self.now.vars entry)) }
         ensures next { option_map (var_at self.now.vars) result ≡ first_of (vars_behind self.now entry) }
         ensures within { IfSome result (λ next. next < length self.now.vars) }
         ensures linked { IfSome result (λ next. IsTrue (has self.now.linked (var_at self.now.vars next))) }
     {
-        number(self.row.next(Some(entry as usize)))
+        self.row.next(Some(entry))
     }
 }
 
 impl Links {
     /// Appends a cell to its chain.
-    pub fn chain_push(&mut self, cell: u64)
+    pub fn chain_push(&mut self, cell: usize)
         requires cell { cell < length self.old.cells }
         requires new { has_node (chain_with self.old cell) cell ≡ false }
         ensures { self.new ≡ lengthened self.old cell }
     {
-        self.chains.append(cell as usize);
+        self.chains.append(cell);
     }
 
     /// Removes the last cell of a chain.
-    pub fn chain_pop(&mut self, cell: u64)
+    pub fn chain_pop(&mut self, cell: usize)
         requires cell { cell < length self.old.cells }
         requires last { last_of (chain_with self.old cell) ≡ Some cell }
         ensures { self.new ≡ shortened self.old cell }
     {
-        self.chains.shorten(cell as usize);
+        self.chains.shorten(cell);
     }
 
     /// The first cell of an entry's chain.
-    pub fn chain_first(&self, entry: u64) -> Option<u64>
+    pub fn chain_first(&self, entry: usize) -> Option<usize>
         requires { entry < length self.now.vars }
         ensures first { result ≡ first_of (chain_at self.now.chains entry) }
         ensures within { IfSome result (λ cell. cell < length self.now.cells) }
@@ -241,11 +233,11 @@ impl Links {
         ensures owner { IfSome result (λ cell. (cell_at self.now.cells cell).entry ≡ entry) }
         ensures one { HaveOneEntry self.now.vars }
     {
-        number(self.chains.first(entry as usize))
+        self.chains.first(entry)
     }
 
     /// The next cell of a chain.
-    pub fn chain_next(&self, cell: u64) -> Option<u64>
+    pub fn chain_next(&self, cell: usize) -> Option<usize>
         requires cell { cell < length self.now.cells }
         requires linked { IsTrue (has_node (chain_with self.now cell) cell) }
         ensures next { result ≡ first_of (behind (Some cell) (chain_with self.now cell)) }
@@ -254,16 +246,7 @@ impl Links {
         ensures owner { IfSome result (λ next.
             (cell_at self.now.cells next).entry ≡ (cell_at self.now.cells cell).entry) }
     {
-        number(self.chains.next(cell as usize))
-    }
-}
-
-fn number(place: Option<usize>) -> Option<u64>
-    ensures { result ≡ place }
-{
-    match place {
-        Some(n) => Some(n as u64),
-        None => None,
+        self.chains.next(cell)
     }
 }
 

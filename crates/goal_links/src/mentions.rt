@@ -73,7 +73,7 @@ impl Mentions {
     }
 
     /// Whether the variable of an entry is mentioned.
-    pub fn names_entry(&self, entry: u64) -> bool
+    pub fn names_entry(&self, entry: usize) -> bool
         requires { entry < length self.now.row.vars }
         ensures { result ≡ has (vars_at self.now.said) (var_at self.now.row.vars entry) }
     {
@@ -106,20 +106,20 @@ impl Mentions {
         requires { index < length self.now.said }
         ensures { result ≡ slice_index_or self.now.said index result }
     {
-        let entry = self.links.owner_of(index as u64);
+        let entry = self.links.owner_of(index);
         Mention {
             var: self.links.var_of(entry),
-            place: self.links.demand_of(index as u64) as usize,
+            place: self.links.demand_of(index),
         }
     }
 
     /// The entry of the variable of the mention with an index. Ready mentions come behind the others.
-    pub fn entry_at(&self, index: usize) -> u64
+    pub fn entry_at(&self, index: usize) -> usize
         requires { index < length self.now.said + length self.now.spare }
         ensures { (m : Mention) → slice_get (self.now.said ++ self.now.spare) index ≡ Some m
             → slice_get self.now.row.vars result ≡ Some m.var }
     {
-        self.links.owner_of(index as u64)
+        self.links.owner_of(index)
     }
 }
 
@@ -135,14 +135,13 @@ impl Mentions {
         ensures row { KeepRow self.old.row self.new.row }
     {
         let entry = self.links.register(mention.var)?;
-        let demand = mention.place as u64;
         let known = self.links.cell_count();
-        let cell = (self.count + index) as u64;
+        let cell = self.count + index;
         if cell < known {
-            self.links.set_cell(cell, entry, demand);
+            self.links.set_cell(cell, entry, mention.place);
             return Ok(index + 1);
         }
-        self.links.register_cell(entry, demand)?;
+        self.links.register_cell(entry, mention.place)?;
         prove!(cell < self.links.cell_count());
         Ok(index + 1)
     }
@@ -154,8 +153,8 @@ impl Mentions {
         ensures spare { self.new.spare ≡ drop 1 self.old.spare }
         ensures row { KeepRow self.old.row self.new.row }
     {
-        prove!((self.count as u64) < self.links.cell_count());
-        self.links.chain_push(self.count as u64);
+        prove!(self.count < self.links.cell_count());
+        self.links.chain_push(self.count);
         self.count += 1;
     }
 
@@ -180,7 +179,7 @@ impl Mentions {
         }
         let last = self.count - 1;
         let mention = self.at(last);
-        self.links.chain_pop(last as u64);
+        self.links.chain_pop(last);
         self.count = last;
         Some(mention)
     }
@@ -198,14 +197,14 @@ impl Mentions {
 // The entries of the variables. Some are linked in goal order.
 impl Mentions {
     /// The entry of a variable, if it was ever made ready.
-    pub fn entry_of(&self, v: Var) -> Option<u64>
+    pub fn entry_of(&self, v: Var) -> Option<usize>
         ensures { MatchOption result (has self.now.row.vars v ≡ false)
             (λ entry. slice_get self.now.row.vars entry ≡ Some v) }
     {
         self.links.entry_of(v)
     }
 
-    pub fn var_of(&self, entry: u64) -> Var
+    pub fn var_of(&self, entry: usize) -> Var
         requires { entry < length self.now.row.vars }
         ensures { result ≡ var_at self.now.row.vars entry }
     {
@@ -213,7 +212,7 @@ impl Mentions {
     }
 
     /// Links an entry at its place in goal order.
-    pub fn link(&mut self, entry: u64)
+    pub fn link(&mut self, entry: usize)
         requires entry { entry < length self.old.row.vars }
         requires new { has self.old.row.linked (var_at self.old.row.vars entry) ≡ false }
         ensures said { self.new.said ≡ self.old.said }
@@ -224,7 +223,7 @@ impl Mentions {
     }
 
     /// Unlinks an entry. It keeps its neighbours.
-    pub fn unlink(&mut self, entry: u64)
+    pub fn unlink(&mut self, entry: usize)
         requires entry { entry < length self.old.row.vars }
         requires linked { IsTrue (has self.old.row.linked (var_at self.old.row.vars entry)) }
         ensures said { self.new.said ≡ self.old.said }
@@ -236,7 +235,7 @@ impl Mentions {
     }
 
     /// Links an entry between the neighbours that it keeps.
-    pub fn relink(&mut self, entry: u64)
+    pub fn relink(&mut self, entry: usize)
         requires { MayReturn self.old.row entry }
         ensures said { self.new.said ≡ self.old.said }
         ensures spare { self.new.spare ≡ self.old.spare }
@@ -246,7 +245,7 @@ impl Mentions {
     }
 
     /// The first entry in goal order that is linked.
-    pub fn first(&self) -> Option<u64>
+    pub fn first(&self) -> Option<usize>
         ensures first { option_map (var_at self.now.row.vars) result ≡ first_of self.now.row.linked }
         ensures within { IfSome result (λ entry. entry < length self.now.row.vars) }
         ensures linked { IfSome result (λ entry. IsTrue (has self.now.row.linked (var_at self.now.row.vars entry))) }
@@ -255,7 +254,7 @@ impl Mentions {
     }
 
     /// The next linked entry.
-    pub fn next(&self, entry: u64) -> Option<u64>
+    pub fn next(&self, entry: usize) -> Option<usize>
         requires entry { entry < length self.now.row.vars }
         requires linked { IsTrue (has self.now.row.linked (var_at self.now.row.vars entry)) }
         ensures next { option_map (var_at self.now.row.vars) result ≡ first_of (vars_behind self.now.row entry) }
@@ -268,7 +267,7 @@ impl Mentions {
 
 impl Mentions {
     // The numbers of the cells of an entry's chain.
-    fn cells_in(&self, alloc: Global, entry: u64) -> Result<Vec<usize>, NoMemory>
+    fn cells_in(&self, alloc: Global, entry: usize) -> Result<Vec<usize>, NoMemory>
         requires { entry < length self.now.row.vars }
         ensures { IfOk result (λ found. found.items ≡ chain_at self.now.row.chains entry) }
     {
@@ -276,7 +275,7 @@ impl Mentions {
         let mut found = Vec::new(alloc);
         let mut at = links.chain_first(entry);
         while let Some(cell) = at {
-            found.push(cell as usize)?;
+            found.push(cell)?;
             at = links.chain_next(cell);
         }
         Ok(found)

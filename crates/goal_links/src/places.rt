@@ -13,7 +13,7 @@ use std::marker::Model;
 pub struct Places<'a> {
     links: &'a Links,
     // The cell of the next mention.
-    at: Option<u64>,
+    at: Option<usize>,
 }
 
 impl<'a> Model for Places<'a> {
@@ -29,7 +29,7 @@ impl<'a> Model for Places<'a> {
 
 impl<'a> Places<'a> {
     /// The places of the cells of an entry's chain.
-    pub(crate) fn of(links: &'a Links, entry: u64) -> Places<'a>
+    pub(crate) fn of(links: &'a Links, entry: usize) -> Places<'a>
         requires entry { entry < length links.now.vars }
         requires once { AreOnce None (chain_at links.now.chains entry) }
         ensures { result ≡ map (place_at links.now.cells) (chain_at links.now.chains entry) }
@@ -56,6 +56,6 @@ impl<'a> Iterator for Places<'a> {
     fn next(&mut self) -> Option<usize> {
         let cell = self.at?;
         self.at = self.links.chain_next(cell);
-        Some(self.links.demand_of(cell) as usize)
+        Some(self.links.demand_of(cell))
     }
 }

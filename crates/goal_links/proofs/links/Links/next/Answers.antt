@@ -1,7 +1,6 @@
-use Rattle.std.proofs.Common.{ℕ, Option, Some, IfSome, IsTrue, ap, ◌∙◌, sym, subst}
+use Rattle.std.proofs.Common.{Some, ap, ◌∙◌, sym}
 use Rattle.std.specs.Option.{option_map}
 use Rattle.qualified_goals.specs.Variable.{same_var}
-use Rattle.choice_problem.specs.ConflictSet.{has}
 use Rattle.goal_links.specs.Beside.{first_of, behind_first}
 use Rattle.goal_links.specs.Row.{behind}
 use Rattle.goal_links.specs.Links.{Entries, var_at}
@@ -14,13 +13,12 @@ next-requires c = linked-number c.self.inside.vars c.self.inside.row c.self.insi
 
 pub returns-clause-next : goal.returns-clause-next
 returns-clause-next c =
-    ap (λ (s : Entries). option_map (var_at s.vars) c.number.result) (sym c.self.view_is)
-    ∙ ap (option_map (var_at c.self.inside.vars)) (c.number.ensures ∙ c.next.ensures.next)
+    ap (λ (s : Entries). option_map (var_at s.vars) c.next.result) (sym c.self.view_is)
+    ∙ ap (option_map (var_at c.self.inside.vars)) c.next.ensures.next
     ∙ sym (first-mapped (var_at c.self.inside.vars) (behind (Some c.args.entry) c.self.inside.row.linked))
     ∙ ap first_of (sym (behind-number c.self.inside.vars c.self.invariant.once c.self.inside.row.linked c.self.invariant.below c.args.entry (entry-fits c.self.inside.vars c.self.inside.row c.self.inside.recent c.self.inside.chains c.self.invariant c.args.self.now c.self.view_is c.args.entry c.requires.entry)))
     ∙ ap (λ (s : Entries). first_of (behind_first (same_var (var_at s.vars c.args.entry)) s.linked)) c.self.view_is
 
 pub returns-clause-linked : goal.returns-clause-linked
 returns-clause-linked c =
-    subst (λ (o : Option ℕ). IfSome o (λ n. IsTrue (has c.args.self.now.linked (var_at c.args.self.now.vars n)))) (sym c.number.ensures)
-    (found-linked c.self.inside.vars c.self.inside.row c.self.inside.recent c.self.inside.chains c.self.invariant c.args.self.now c.self.view_is c.next.result c.next.ensures.linked)
+    found-linked c.self.inside.vars c.self.inside.row c.self.inside.recent c.self.inside.chains c.self.invariant c.args.self.now c.self.view_is c.next.result c.next.ensures.linked
