@@ -6,3 +6,4 @@ pub mod Turned
 pub mod Queries
 pub mod DemandGraphs
 pub mod Grown
+pub mod OnceNamed

@@ -1,5 +1,5 @@
 -- Stacks of choices: their invariant, and their changes.
-use Rattle.std.specs.Prelude.{◌≡◌, ◌↔◌, ℕ, zero, suc, ◌-◌, ◌<◌, ◌≤◌, Bool, true, false, cond, ◌&&◌, List, [], ◌∷◌, ◌++◌, length, take, map, filter, None, is_none, slice_index_or, option_to_list, flat_map}
+use Rattle.std.specs.Prelude.{◌≡◌, ◌↔◌, ℕ, zero, suc, ◌-◌, ◌<◌, ◌≤◌, Bool, true, false, not, cond, ◌&&◌, List, [], ◌∷◌, ◌++◌, length, take, map, filter, None, is_none, slice_index_or, option_to_list, flat_map}
 use Rattle.std.specs.List.{Contains, list_any}
 use Rattle.qualified_goals.specs.declared.variable.Var.{Var}
 use Rattle.choice_problem.specs.declared.problem.Choice.{Choice}
@@ -36,6 +36,11 @@ are_naming v choices = list_any (λ c. same_var c.var v) choices
 abbrev pub watchers_by : ℕ → List Choice → List Mention
 watchers_by n [] = []
 watchers_by n (c ∷ rest) = cond (are_naming c.var rest) (watchers_by n rest) (mention_of c.var n ∷ watchers_by n rest)
+
+-- whether choices name each variable once
+abbrev pub are_once : List Choice → Bool
+are_once [] = true
+are_once (c ∷ rest) = not (are_naming c.var rest) && are_once rest
 
 -- the same for several demands, numbered from n
 abbrev pub watchers_from : ℕ → List Demand → List Mention

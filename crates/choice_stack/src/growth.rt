@@ -1,15 +1,20 @@
 // Additions of a choice to a stack. All memory is allocated first, and then the ready mentions are appended.
-ghost use Rattle.std.specs.Prelude.{◌≡◌, ◌+◌, ◌<◌, ◌≤◌, ◌++◌, IfOk, List, length, take, drop, vec_capacity, vec_len};
+ghost use Rattle.std.specs.Prelude.{◌≡◌, true, ◌+◌, ◌<◌, ◌≤◌, ◌++◌, IfOk, List, length, take, drop, vec_capacity, vec_len};
 ghost use Rattle.goal_links.specs.Mentions.{mention_of};
 ghost use Rattle.choice_stack.specs.Open.{StayKept, any_var, is_chosen_in};
 ghost use Rattle.choice_stack.specs.Growth.{IsReady, mentions_at};
-ghost use Rattle.choice_stack.specs.Stack.{AllBelow, AreOpen, demand_at, watchers_by, watchers_from};
+ghost use Rattle.choice_stack.specs.Stack.{AllBelow, AreOpen, are_once, demand_at, watchers_by, watchers_from};
 
 use crate::checks::{are_naming, demand_in};
 use crate::goals::Goals;
 use choice_problem::{Choice, Demand, Trail};
 use goal_links::{Mention, Mentions};
+use indexmap::IndexSet;
 use plan_types::{List, NoMemory};
+use std::alloc::Global;
+
+// The most choices of a condition in which each variable is looked for in those behind it.
+const SHORT: usize = 16;
 
 /// The numbers of ready mentions: of variables that demands wait for, and of targets of demands that become active.
 #[derive(Clone, Copy, Debug, Drop)]
@@ -39,9 +44,10 @@ pub(crate) fn make_ready(
         (IsReady listed.new.items watchers.new.spare goals.new.spare demands.now woken.now fresh.now) }
     ensures room { IfOk result (λ ready. vec_len listed.new + length demands.now ≤ vec_capacity listed.new) }
 {
+    let alloc = *listed.allocator();
     let first = listed.len();
     listed.reserve(demands.len())?;
-    let waiting = ready_watchers(watchers, first, demands)?;
+    let waiting = ready_watchers(alloc, watchers, first, demands)?;
     let known = ready_goals(goals, 0, 0, listed.as_slice(), woken)?;
     let active = ready_goals(goals, known, first, demands, fresh)?;
     Ok(Ready { waiting, active })
@@ -50,6 +56,7 @@ pub(crate) fn make_ready(
 // Makes the mentions ready of the variables that the new demands will wait for. These will be listed from `first` on.
 // Returns the number of these mentions.
 fn ready_watchers(
+    alloc: Global,
     watchers: &mut Mentions,
     first: usize,
     demands: &[Demand],
@@ -63,13 +70,14 @@ fn ready_watchers(
     for index in 0..len {
         let demand = demand_in(demands, index);
         let place = sum(first, index)?;
-        count = ready_watchers_of(watchers, count, place, demand.when.as_slice())?;
+        count = ready_watchers_of(alloc, watchers, count, place, demand.when.as_slice())?;
     }
     Ok(count)
 }
 
 // Makes ready, behind the first `before` mentions, one mention for each variable of a demand's condition.
 fn ready_watchers_of(
+    alloc: Global,
     watchers: &mut Mentions,
     before: usize,
     place: usize,
@@ -81,15 +89,34 @@ fn ready_watchers_of(
         ≡ take before watchers.old.spare ++ watchers_by place when.now) }
     ensures within { IfOk result (λ count. count ≤ length watchers.new.spare) }
 {
+    let once = are_surely_once(alloc, when)?;
     let mut count = before;
     let mut rest = when;
     while let [c, tail @ ..] = rest {
-        if !are_naming(tail, c.var) {
+        if once || !are_naming(tail, c.var) {
             count = watchers.prepare(count, Mention { var: c.var, place })?;
         }
         rest = tail;
     }
     Ok(count)
+}
+
+// Whether a long condition names each variable once, in time linear in its length. A short one isn't looked at.
+fn are_surely_once(alloc: Global, when: &[Choice]) -> Result<bool, NoMemory>
+    ensures { IfOk result (λ once. once ≡ true → are_once when.now ≡ true) }
+{
+    if when.len() <= SHORT {
+        return Ok(false);
+    }
+    let mut behind = IndexSet::new(alloc);
+    let mut place = when.len();
+    while place > 0 {
+        place -= 1;
+        if !behind.insert(when[place].var)? {
+            return Ok(false);
+        }
+    }
+    Ok(true)
 }
 
 // Makes ready, behind the first `before` mentions, the targets of the demands at these places, numbered from `first`.
