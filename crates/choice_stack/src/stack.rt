@@ -29,6 +29,9 @@ use plan_types::{List, NoMemory};
 use std::alloc::Global;
 use std::marker::Model;
 
+// The most active demands on a variable that count as few.
+const FEW: usize = 8;
+
 /// The lengths of the lists before a choice, and the entry of its variable.
 #[derive(Clone, Copy, Debug, Drop)]
 pub(crate) struct Mark {
@@ -302,6 +305,11 @@ impl Stack {
         let places = self.goals.places(to);
         let owners = owners_at(alloc, self.listed.as_slice(), places)?;
         Ok(List::from_vec(owners))
+    }
+
+    /// Whether few active demands are on a variable. It decides only what a search looks at first.
+    pub fn has_few_sources(&self, to: Var) -> bool {
+        self.goals.places(to).nth(FEW).is_none()
     }
 
     /// The variables to which edges from this one lead.

@@ -11,7 +11,7 @@ ghost use Rattle.demand_cycles.specs.Ring.{AreRings, IsRingOf, Tells, closes_fro
 ghost use Rattle.demand_cycles.specs.Side.{IsSide, reversed};
 
 use crate::ring::{Ring, any_closes};
-use crate::side::{Side, are_apart, have_met, is_seeking};
+use crate::side::{Side, are_apart, have_met, is_near, is_seeking};
 use crate::var_set::VarSet;
 use choice_problem::{ConflictSet, Demand, Var, is_same, push_named};
 use plan_types::{List, NoMemory};
@@ -38,6 +38,9 @@ pub trait Graph {
     fn targets(&self, alloc: Global, from: Var) -> Result<List<Var>, NoMemory>
         ensures { IfOk result (λ found. (v : Var) →
             (Contains found v) ↔ (HasEdge (edges_of (demands self.now)) from v)) };
+
+    /// Whether few edges lead to this variable. It decides only what is searched first.
+    fn has_few_sources(&self, to: Var) -> bool;
 
     /// Whether a variable is chosen. Only chosen variables have edges to others.
     fn is_chosen(&self, v: Var) -> bool
@@ -180,8 +183,8 @@ fn side_of(alloc: Global, last: Option<Side>, end: Var) -> Side
     }
 }
 
-// Whether edges lead from a variable to the end of a side. The side grows until this is known. The search along
-// edges goes first: many variables may lead to an owner whose target leads to few.
+// Whether edges lead from a variable to the end of a side. The side grows until this is known. Behind what is near,
+// the search along edges goes first: many variables may lead to an owner whose target leads to few.
 fn is_led_to<G: Graph>(
     alloc: Global,
     graph: &G,
@@ -193,6 +196,7 @@ fn is_led_to<G: Graph>(
         is_led ≡ leads_to_any (edges_of (G.demands graph.now)) (back.old.end ∷ []) from) }
     ensures back { OnOk result (IsSide (edges_of (G.demands graph.now)) back.new) }
 {
+    search_near(alloc, graph, back, from)?;
     let mut ahead = Side::new(alloc, from);
     while are_apart(&ahead, back) {
         let targets = graph.targets(alloc, ahead.next())?;
@@ -203,6 +207,29 @@ fn is_led_to<G: Graph>(
         }
     }
     Ok(have_met(&ahead, back))
+}
+
+// Searches against the edges while few variables are found, and few lead to the next one. This mostly ends the search:
+// it begins at the last choice, to which few edges lead yet.
+fn search_near<G: Graph>(
+    alloc: Global,
+    graph: &G,
+    back: &mut Side,
+    from: Var,
+) -> Result<(), NoMemory>
+    requires { IsSide (edges_of (G.demands graph.now)) back.old }
+    ensures end { OnOk result (back.new.end ≡ back.old.end) }
+    ensures back { OnOk result (IsSide (edges_of (G.demands graph.now)) back.new) }
+{
+    while is_near(back, from) {
+        let next = back.next();
+        if !graph.has_few_sources(next) {
+            return Ok(());
+        }
+        let sources = graph.sources(alloc, next)?;
+        back.add(sources.as_slice())?;
+    }
+    Ok(())
 }
 
 // The goal and all variables that lead to it.

@@ -1,5 +1,5 @@
 // A search along the edges from one variable, or against them.
-ghost use Rattle.std.specs.Prelude.{◌≡◌, ◌+◌, ◌<◌, ◌||◌, List, Some, OnOk, length, slice_get};
+ghost use Rattle.std.specs.Prelude.{◌≡◌, ◌+◌, ◌<◌, ◌≤◌, ◌||◌, IsTrue, List, Some, OnOk, length, slice_get};
 ghost use Rattle.choice_problem.specs.ConflictSet.{has};
 ghost use Rattle.choice_problem.specs.Conflict.{Edge};
 ghost use Rattle.demand_cycles.specs.Side.{IsSide, are_apart, is_seeking};
@@ -9,6 +9,9 @@ use crate::var_set::VarSet;
 use choice_problem::Var;
 use plan_types::NoMemory;
 use std::alloc::Global;
+
+// The most variables that a search has found while it is near its end.
+const NEAR: usize = 8;
 
 /// A search from `end`: the variables found so far. The edges at those before `place` are followed already.
 pub(crate) struct Side {
@@ -73,6 +76,14 @@ pub(crate) fn is_seeking(side: &Side, v: Var) -> bool
     ensures { result ≡ is_seeking side.now v }
 {
     side.place < side.found.len() && !side.holds(v)
+}
+
+/// Whether a variable isn't found yet, but may still be, and few are found.
+pub(crate) fn is_near(side: &Side, v: Var) -> bool
+    ensures goes_on { IsTrue result → side.now.place < length side.now.found }
+    ensures few { IsTrue result → length side.now.found ≤ 8 }
+{
+    side.found.len() <= NEAR && is_seeking(side, v)
 }
 
 /// Whether both searches may still find the other's end.

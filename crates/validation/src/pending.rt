@@ -129,6 +129,10 @@ impl<'a> Graph for Pending<'a> {
         Ok(all)
     }
 
+    fn has_few_sources(&self, to: Var) -> bool {
+        self.stack.has_few_sources(to)
+    }
+
     fn is_chosen(&self, v: Var) -> bool {
         if is_same(self.addition.choice.var, v) {
             return true;

@@ -11,7 +11,7 @@ use Rattle.demand_cycles.proofs.cycles.is_led_to.Goals.{then-is_seeking+in_ok-so
 pub loop-alloc-init : goal.loop-alloc-init
 loop-alloc-init g c =
     let edges = edges_of (g.G.Graph.demands c.args.graph.now) in
-    record { ahead = c.new-ahead.ensures.begun (reversed edges); begun = c.new-ahead.ensures.end; back = c.requires; end = refl }
+    record { ahead = c.new-ahead.ensures.begun (reversed edges); begun = c.new-ahead.ensures.end; back = c.in_ok-search_near.ensures.back; end = refl }
 
 pub loop-alloc-smaller : goal.loop-alloc-smaller
 loop-alloc-smaller g c =
@@ -56,7 +56,7 @@ returns-clause-is_led g c =
     c.have_met.ensures
     ∙ met-leads edges ahead.end back.end ahead.found back.found ahead.place back.place c.loop-alloc.invariant.ahead c.loop-alloc.invariant.back
     (sym c.are_apart.ensures ∙ c.loop-alloc-test.false)
-    ∙ ap (λ v. leads_to_any edges (back.end ∷ []) v) c.loop-alloc.invariant.begun ∙ ap (λ v. leads_to_any edges (v ∷ []) c.args.from) c.loop-alloc.invariant.end
+    ∙ ap (λ v. leads_to_any edges (back.end ∷ []) v) c.loop-alloc.invariant.begun ∙ ap (λ v. leads_to_any edges (v ∷ []) c.args.from) (c.loop-alloc.invariant.end ∙ c.in_ok-search_near.ensures.end)
 
 pub returns-clause-back : goal.returns-clause-back
 returns-clause-back g c = c.loop-alloc.invariant.back
