@@ -46,3 +46,26 @@ without_needs = refl
 once : each_line_once (bare ∷ tool [] false ∷ bare ∷ []) ≡ bare ∷ tool [] false ∷ []
 unfolding digits
 once = refl
+
+abbrev lib : List ℕ → List ℕ → List (List ℕ) → PlanNode
+lib component id needs = record {
+  kind = Store;
+  name = codes "q";
+  version = record { parts = 1 ∷ [] };
+  component = component;
+  id = id;
+  unbuildable = false;
+  libs = needs;
+  tools = [];
+  setups = [];
+}
+
+-- one identifier, two lines
+two_lines : each_line_once (lib (codes "lib") (codes "x") [] ∷ lib (codes "exe:q") (codes "x") [] ∷ []) ≡ lib (codes "lib") (codes "x") [] ∷ lib (codes "exe:q") (codes "x") [] ∷ []
+unfolding digits
+two_lines = refl
+
+-- two identifiers, one line, since one of them has blanks
+one_line : each_line_once (lib (codes "lib") (codes "x") (codes "y" ∷ []) ∷ lib (codes "lib") (codes "x needs y") [] ∷ []) ≡ lib (codes "lib") (codes "x") (codes "y" ∷ []) ∷ []
+unfolding digits
+one_line = refl

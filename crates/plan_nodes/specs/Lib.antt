@@ -1,3 +1,4 @@
 pub mod Line
 pub mod Once
+pub mod Seen
 pub mod Examples

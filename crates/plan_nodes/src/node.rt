@@ -14,7 +14,7 @@ pub enum NodeKind {
 }
 
 /// A component of a plan. Each list of needs has identifiers in byte order, each once.
-#[derive(Debug)]
+#[derive(Debug, PartialEq, Eq)]
 pub struct PlanNode {
     pub kind: NodeKind,
     /// The name of the package.
