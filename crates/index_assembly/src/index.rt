@@ -2,7 +2,6 @@
 ghost use Rattle.std.specs.Prelude.{◌≡◌, ◌++◌, List, ℕ, IfOk, OnOk, map, flat_map};
 ghost use Rattle.std.specs.List.{IsDistinct};
 ghost use Rattle.index_files.specs.Names.{is_listed};
-ghost use Rattle.index_files.specs.Units.{unit_ids};
 ghost use Rattle.index_files.specs.declared.closure.FoundName.{FoundName};
 ghost use Rattle.index_assembly.specs.Entries.{local_entries};
 ghost use Rattle.index_assembly.specs.Index.{IsIndexOf, is_extra, ordered_index, warning_at, warnings_of};
@@ -19,8 +18,7 @@ use std::alloc::Global;
 
 /// The index of what was read of a folder. `extra` has the extra packages of the project.
 pub fn index_of(alloc: Global, readings: Readings, extra: &List<Named>) -> Result<Index, NoMemory>
-    requires units { IsDistinct same_text (unit_ids readings.units) }
-    requires names { IsDistinct same_text (map (λ f. f.name) readings.found) }
+    requires { IsDistinct same_text (map (λ f. f.name) readings.found) }
     ensures { IfOk result (IsIndexOf extra.now readings) }
 {
     let Readings {

@@ -1,6 +1,6 @@
 // The units that have records, by id.
 ghost use Rattle.std.specs.Prelude.{◌≡◌, ◌++◌, List, IfOk, OnOk, map, position};
-ghost use Rattle.std.specs.List.{IsDistinct, list_any};
+ghost use Rattle.std.specs.List.{list_any};
 ghost use Rattle.index_files.specs.Units.{known_name, needed_names, unit_ids, unit_name, place_of};
 ghost use Rattle.index_files.specs.declared.unit.Unit.{Unit};
 ghost use Rattle.index_assembly.specs.UnitNames.{Knows};
@@ -30,11 +30,15 @@ impl Drop for UnitNames {
 }
 
 impl UnitNames {
-    pub(crate) fn of(alloc: Global, units: &[Unit]) -> Result<UnitNames, NoMemory>
-        requires { IsDistinct same_text (unit_ids units.now) }
+    /// The names of these units, whose ids are in the table.
+    pub(crate) fn of(
+        alloc: Global,
+        ids: IndexSet<Text>,
+        units: &[Unit],
+    ) -> Result<UnitNames, NoMemory>
+        requires { ids.keys ≡ unit_ids units.now }
         ensures { IfOk result (Knows units.now) }
     {
-        let ids = ids_of(alloc, units)?;
         let names = names_of(alloc, units)?;
         Ok(UnitNames { ids, names })
     }
@@ -106,17 +110,6 @@ impl UnitNames {
             },
         }
     }
-}
-
-fn ids_of(alloc: Global, units: &[Unit]) -> Result<IndexSet<Text>, NoMemory>
-    requires { IsDistinct same_text (unit_ids units.now) }
-    ensures { IfOk result (λ ids. ids.keys ≡ unit_ids units.now) }
-{
-    let mut ids = IndexSet::new(alloc);
-    for unit in units {
-        ids.insert(unit.record_of.id.copy()?)?;
-    }
-    Ok(ids)
 }
 
 fn names_of(alloc: Global, units: &[Unit]) -> Result<List<Text>, NoMemory>

@@ -1,26 +1,23 @@
 // The entries of units, without those that lack a needed unit.
 ghost use Rattle.std.specs.Prelude.{◌≡◌, ◌++◌, ◌+◌, ◌<◌, List, false, IfOk, OnOk, length, map, slice_index_or};
-ghost use Rattle.std.specs.List.{IsDistinct};
-ghost use Rattle.index_files.specs.Units.{unit_ids};
 ghost use Rattle.index_files.specs.declared.unit.Unit.{Unit};
 ghost use Rattle.index_assembly.specs.Entries.{entry_unless, unit_entries, unit_entry, unit_instance};
 ghost use Rattle.index_assembly.specs.UnitNames.{Knows};
 ghost use Rattle.index_assembly.specs.Lacks.{AreLacking, lacks_one, needed_places};
 ghost use Rattle.index_assembly.specs.Units.{AreEntriesOf};
-ghost use Rattle.plan_types.specs.Bytes.{same_text};
 
 use crate::unit_names::UnitNames;
 use broken_units::leading;
-use index_files::Unit;
+use index_files::{Unit, Units};
 use plan_types::{Body, Entry, Instance, List, NoMemory, Origin, UnitRecord};
 use std::alloc::Global;
 
 /// The entries of the units from which no unit without a record is reached.
-pub(crate) fn entries_of(alloc: Global, units: List<Unit>) -> Result<List<Entry>, NoMemory>
-    requires { IsDistinct same_text (unit_ids units) }
+pub(crate) fn entries_of(alloc: Global, units: Units) -> Result<List<Entry>, NoMemory>
     ensures { IfOk result (AreEntriesOf units) }
 {
-    let known = UnitNames::of(alloc, units.as_slice())?;
+    let (units, ids) = units.into_parts();
+    let known = UnitNames::of(alloc, ids, units.as_slice())?;
     let lacking = lacking_of(alloc, units.as_slice(), &known)?;
     kept_entries(alloc, units, lacking.as_slice(), &known)
 }

@@ -16,7 +16,6 @@ use Rattle.index_files.specs.declared.file.ReadFile.{ReadFile}
 use Rattle.index_files.specs.declared.totals.Totals.{Totals}
 use Rattle.index_files.specs.declared.unit.Unit.{Unit}
 use Rattle.index_files.specs.declared.units.Counted.{Counted}
-use Rattle.index_files.specs.declared.units.Units.{Units}
 use Rattle.index_files.proofs.FileTotals.{Fit, fit_all, fit_ends, fit_more}
 use Rattle.index_files.proofs.StepsInTurn.{Through, refused, whole}
 
@@ -67,8 +66,8 @@ module _ (places : Places) (all read : List ReadFile) (units : List Unit) (t : T
         )
 
     -- one more record is refused
-    pub units-halted : is_too_many (t.files + count_of x) (t.bytes + size_of x) ≡ false → (h : Halt) → Settles (OnPart (λ (u : Units). u.list) (Steps RecordComes with_record units x)) (Err h)
-        → Answers (OnPart (λ (n : Counted). n.units.list) (AreUnitsOf places all)) (Err h)
+    pub units-halted : is_too_many (t.files + count_of x) (t.bytes + size_of x) ≡ false → (h : Halt) → Settles (Steps RecordComes with_record units x) (Err h)
+        → Answers (OnPart (λ (n : Counted). n.units) (AreUnitsOf places all)) (Err h)
     units-halted few halt.NoMemory s = tt
     units-halted few halt.Failed s = tt
     units-halted few (halt.Refused r) s = (

@@ -6,11 +6,11 @@ use Rattle.plan_types.specs.declared.index.Places.{Places}
 use Rattle.index_files.specs.Closure.{Ground}
 use Rattle.index_files.specs.declared.read_before.ReadBefore.{ReadBefore}
 use Rattle.index_files.specs.declared.locals.Locals.{Locals}
-use Rattle.index_files.specs.declared.units.Units.{Units}
+use Rattle.index_files.specs.declared.unit.Unit.{Unit}
 
 -- the ground with these local packages and units
-abbrev pub ground_from : Env → Places → Locals → Units → List Named → Ground
-ground_from env places locals units extra = record { env = env; places = places; locals = locals.list; units = units.list; extra = extra }
+abbrev pub ground_from : Env → Places → Locals → List Unit → List Named → Ground
+ground_from env places locals units extra = record { env = env; places = places; locals = locals.list; units = units; extra = extra }
 
 -- the ground of the kept state
 abbrev pub ground_of : ReadBefore → Ground

@@ -1,13 +1,14 @@
 // Files as they are read from the folder.
 ghost use Rattle.std.specs.Prelude.{◌≡◌, ◌+◌, ◌==◌, false, length, map, not, IfOk, IfSome, IsErrOf};
 ghost use Rattle.std.specs.List.{AllByRecursion};
+ghost use Rattle.plan_types.specs.Refusal.{refusal_at};
 ghost use Rattle.outside_folder.specs.Calls.{Leaves};
 ghost use Rattle.outside_folder.specs.declared.calls.Trouble.TheVariants.{Failed as trouble_failed};
 ghost use Rattle.index_files.specs.File.{Counts, HasContentWithinLimit, content_found, count_of, file_found, fitting_at, size_of};
 
 use crate::totals::Totals;
 use outside_folder::{Content, Folder, Trouble, read_content};
-use plan_types::{List, Text};
+use plan_types::{Cause, Halt, List, NoMemory, Refusal, Text};
 use std::alloc::Global;
 
 /// A file that was read.
@@ -38,6 +39,14 @@ impl ReadFile {
             Content::TooLarge => 0,
             Content::Bytes(bytes) => bytes.len(),
         }
+    }
+
+    /// The refusal of the file for a fault in it.
+    pub fn refused(&self, alloc: Global, line: u32, cause: Cause) -> Result<Halt, NoMemory>
+        ensures { IfOk result (λ halt. halt ≡ Halt.Refused (refusal_at self.now.path line cause)) }
+    {
+        let path = self.path.copy()?;
+        Ok(Halt::Refused(Refusal::at(alloc, path, line, cause)))
     }
 }
 

@@ -27,3 +27,4 @@ pub use local::Local;
 pub use readings::{Readings, read_index_files};
 pub use release::{Judged, Release};
 pub use unit::Unit;
+pub use units::Units;

@@ -73,10 +73,7 @@ impl Locals {
         match source_in(alloc, &file.content, env) {
             Ok(source) => self.with_source(&file.path, source),
             Err(Fault::NoMemory) => Err(Halt::NoMemory),
-            Err(Fault::At { line, cause }) => {
-                let path = file.path.copy()?;
-                Err(Halt::Refused(Refusal::at(alloc, path, line, cause)))
-            }
+            Err(Fault::At { line, cause }) => Err(file.refused(alloc, line, cause)?),
         }
     }
 

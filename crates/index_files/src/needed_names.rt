@@ -25,12 +25,12 @@ impl MentionedNames {
     ghost use Rattle.index_files.specs.NeededNames.{Adds, needed_in};
 
     pub(crate) fn of(alloc: Global, units: &Units) -> Result<MentionedNames, NoMemory>
-        ensures { IfOk result (λ needed. (name : List ℕ) → needed_in needed name ≡ needed_by units.now.list name) }
+        ensures { IfOk result (λ needed. (name : List ℕ) → needed_in needed name ≡ needed_by units.now name) }
     {
         let mut needed = MentionedNames {
             by_name: IndexMap::new(alloc),
         };
-        for unit in units.list.as_slice() {
+        for unit in units.as_slice() {
             let names = needed_names(alloc, units, unit)?;
             needed.add(&unit.record_of.name, names)?;
         }
@@ -63,7 +63,7 @@ impl MentionedNames {
 
 // The package names of the units that a unit needs, except those without a record.
 fn needed_names(alloc: Global, units: &Units, unit: &Unit) -> Result<List<Text>, NoMemory>
-    ensures { IfOk result (λ names. names ≡ needed_names units.now.list unit.now) }
+    ensures { IfOk result (λ names. names ≡ needed_names units.now unit.now) }
 {
     let mut names = List::new(alloc);
     for id in unit.record_of.depends.as_slice() {
@@ -73,10 +73,10 @@ fn needed_names(alloc: Global, units: &Units, unit: &Unit) -> Result<List<Text>,
 }
 
 fn push_known(names: &mut List<Text>, units: &Units, id: &Text) -> Result<(), NoMemory>
-    ensures { OnOk result (names.new ≡ names.old ++ known_name units.now.list id.now) }
+    ensures { OnOk result (names.new ≡ names.old ++ known_name units.now id.now) }
 {
-    match units.ids.get_index_of(id) {
+    match units.place_of(id) {
         None => Ok(()),
-        Some(place) => names.push(units.list.as_slice()[place].record_of.name.copy()?),
+        Some(place) => names.push(units.as_slice()[place].record_of.name.copy()?),
     }
 }

@@ -17,5 +17,5 @@ pub(crate) struct ReadBefore<'a> {
     pub units: &'a Units,
     pub extra: &'a List<Named>,
     pub needed: &'a MentionedNames,
-    ghost needs: { (name : List ℕ) → needed_in needed.now name ≡ needed_by units.now.list name },
+    ghost needs: { (name : List ℕ) → needed_in needed.now name ≡ needed_by units.now name },
 }

@@ -17,7 +17,6 @@ use crate::needed_names::MentionedNames;
 use crate::places::record_path;
 use crate::read_before::ReadBefore;
 use crate::totals::too_many;
-use crate::unit::Unit;
 use crate::units::{Counted, Units, read_records};
 use outside_folder::{Folder, Name, Trouble, list_names};
 use plan_types::{Env, Halt, List, Named, NoMemory, Places, Text};
@@ -29,7 +28,7 @@ pub struct Readings {
     /// In the order of their paths.
     pub locals: List<Local>,
     /// In the order of their paths, including those that need a unit without a record.
-    pub units: List<Unit>,
+    pub units: Units,
     /// The names of the closure, each once.
     pub found: List<FoundName>,
 }
@@ -68,10 +67,10 @@ pub fn read_index_files<F: Folder>(
 
 fn read_units<F: Folder>(alloc: Global, places: &Places, folder: &mut F) -> Result<Counted, Halt>
     ensures observed { IfSome (F.tells folder.old) (λ files. Answers
-        (OnPart (λ counted. counted.units.list) (ReadsUnits places.now files)) result) }
+        (OnPart (λ counted. counted.units) (ReadsUnits places.now files)) result) }
     ensures counts { IfSome (F.tells folder.old) (λ files. IfOk result
         (λ counted. CountsAll counted.totals (record_files places.now files))) }
-    ensures once { IfOk result (λ counted. IsDistinct same_text (unit_ids counted.units.list)) }
+    ensures once { IfOk result (λ counted. IsDistinct same_text (unit_ids counted.units)) }
     ensures folder { Leaves F.tells F.faults folder.old folder.new (IsErrOf result Halt.Failed) }
 {
     let paths = record_paths(alloc, places, folder)?;
@@ -128,6 +127,7 @@ fn read_indexed<F: Folder>(
 {
     let ReadFirst { locals, counted } = first;
     let Counted { units, totals } = counted;
+    units.are_formed();
     let needed = MentionedNames::of(alloc, &units)?;
     let before = ReadBefore {
         env,
@@ -145,11 +145,11 @@ fn read_indexed<F: Folder>(
 }
 
 fn readings_of(locals: Locals, units: Units, found: List<FoundName>) -> Readings
-    ensures { result ≡ record { locals = locals.list; units = units.list; found = found } }
+    ensures { result ≡ record { locals = locals.list; units = units; found = found } }
 {
     Readings {
         locals: locals.into_list(),
-        units: units.into_list(),
+        units,
         found,
     }
 }

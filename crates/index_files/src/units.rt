@@ -18,15 +18,14 @@ use indexmap::IndexSet;
 use outside_folder::{Content, Folder};
 use plan_types::{Cause, Fault, Halt, List, NoMemory, Places, Refusal, Text, UnitRecord};
 use std::alloc::Global;
+use std::marker::Model;
 use unit_record::read_record;
 
-/// Units with their ids.
+/// Installed units of distinct ids, with a table of these ids.
 #[derive(Debug)]
-pub(crate) struct Units {
-    pub list: List<Unit>,
-    pub ids: IndexSet<Text>,
-    ghost named: { ids.keys ≡ unit_ids list },
-    ghost formed: { list_all is_well_formed list ≡ true },
+pub struct Units {
+    list: List<Unit>,
+    ids: IndexSet<Text>,
 }
 
 // Explicit, so that it is proved once: a derived one is expanded at each exit.
@@ -37,6 +36,19 @@ impl Drop for Units {
             ids: _ids,
         } = self;
     }
+}
+
+impl Model for Units {
+    ghost use Rattle.std.specs.Prelude.{◌≡◌, List, true};
+    ghost use Rattle.std.specs.List.{list_all};
+    ghost use Rattle.index_files.specs.Units.{is_well_formed, unit_ids};
+    ghost use Rattle.index_files.specs.declared.unit.Unit.{Unit};
+
+    ghost Value = { List Unit };
+
+    ghost view = { λ u. u.list };
+
+    ghost invariant = { λ u. (u.ids.keys ≡ unit_ids u.list) × (list_all is_well_formed u.list ≡ true) };
 }
 
 /// Units, and the totals of their records.
@@ -54,11 +66,11 @@ pub(crate) fn read_records<F: Folder>(
     folder: &mut F,
 ) -> Result<Counted, Halt>
     ensures observed { IfSome (F.tells folder.old) (λ files. Answers
-        (OnPart (λ counted. counted.units.list)
+        (OnPart (λ counted. counted.units)
         (AreUnitsOf places.now (map (file_found true files) paths.now))) result) }
     ensures counts { IfSome (F.tells folder.old) (λ files. IfOk result
         (λ counted. CountsAll counted.totals (map (file_found true files) paths.now))) }
-    ensures once { IfOk result (λ counted. IsDistinct same_text (unit_ids counted.units.list)) }
+    ensures once { IfOk result (λ counted. IsDistinct same_text (unit_ids counted.units)) }
     ensures folder { Leaves F.tells F.faults folder.old folder.new (IsErrOf result Halt.Failed) }
 {
     let mut units = Units::new(alloc);
@@ -75,7 +87,7 @@ pub(crate) fn read_records<F: Folder>(
 
 impl Units {
     fn new(alloc: Global) -> Units
-        ensures { result.list ≡ [] }
+        ensures { result ≡ [] }
     {
         Units {
             list: List::new(alloc),
@@ -83,23 +95,49 @@ impl Units {
         }
     }
 
+    pub(crate) fn as_slice(&self) -> &[Unit]
+        ensures { result.now ≡ self.now }
+    {
+        self.list.as_slice()
+    }
+
+    /// The place of the unit of an id.
+    pub(crate) fn place_of(&self, id: &Text) -> Option<usize>
+        ensures { result ≡ place_of self.now id.now }
+    {
+        self.ids.get_index_of(id)
+    }
+
+    /// Their names and versions are well-formed. The body reads a field, since that gives the invariant.
+    pub(crate) fn are_formed(&self)
+        ensures { list_all is_well_formed self.now ≡ true }
+    {
+        let _list = &self.list;
+    }
+
+    /// The units, and the table of their ids.
+    pub fn into_parts(self) -> (List<Unit>, IndexSet<Text>)
+        ensures units { result.0 ≡ self }
+        ensures ids { result.1.keys ≡ unit_ids self }
+    {
+        let Units { list, ids } = self;
+        (list, ids)
+    }
+
     fn with_file(self, alloc: Global, file: &ReadFile) -> Result<Units, Halt>
         requires { HasContentWithinLimit file.now }
-        ensures { Settles (OnPart (λ units. units.list) (Steps RecordComes with_record self.list file.now)) result }
+        ensures { Settles (Steps RecordComes with_record self file.now) result }
     {
         match record_in(alloc, &file.content) {
             Ok(found) => self.with_found(&file.path, found),
             Err(Fault::NoMemory) => Err(Halt::NoMemory),
-            Err(Fault::At { line, cause }) => {
-                let path = file.path.copy()?;
-                Err(Halt::Refused(Refusal::at(alloc, path, line, cause)))
-            }
+            Err(Fault::At { line, cause }) => Err(file.refused(alloc, line, cause)?),
         }
     }
 
     fn with_found(self, path: &Text, found: Option<UnitRecord>) -> Result<Units, Halt>
         requires { IfSome found (λ r. (path : List ℕ) → is_well_formed (record { path = path; record_of = r }) ≡ true) }
-        ensures { Settles (OnPart (λ units. units.list) (TakesFound self.list path.now found)) result }
+        ensures { Settles (TakesFound self path.now found) result }
     {
         match found {
             None => Ok(self),
@@ -109,7 +147,7 @@ impl Units {
 
     fn with_record(self, path: &Text, record_of: UnitRecord) -> Result<Units, Halt>
         requires { is_well_formed (record { path = path.now; record_of = record_of }) ≡ true }
-        ensures { Settles (OnPart (λ units. units.list) (TakesUnit self.list path.now record_of)) result }
+        ensures { Settles (TakesUnit self path.now record_of) result }
     {
         let unit = Unit::at(path, record_of)?;
         match self.ids.get_index_of(&unit.record_of.id) {
@@ -127,23 +165,15 @@ impl Units {
     }
 
     fn with(self, unit: Unit) -> Result<Units, NoMemory>
-        requires new { place_of self.list (unit_id unit) ≡ None }
+        requires new { place_of self (unit_id unit) ≡ None }
         requires formed { is_well_formed unit ≡ true }
-        ensures { IfOk result (λ units. units.list ≡ self.list ++ unit ∷ []) }
+        ensures { IfOk result (λ units. units ≡ self ++ unit ∷ []) }
     {
         let Units { mut list, mut ids } = self;
         let id = unit.record_of.id.copy()?;
         list.push(unit)?;
         ids.insert(id)?;
         Ok(Units { list, ids })
-    }
-
-    /// The units without the set of ids.
-    pub fn into_list(self) -> List<Unit>
-        ensures { result ≡ self.list }
-    {
-        let Units { list, ids: _ids } = self;
-        list
     }
 }
 

@@ -37,7 +37,7 @@ returns-in_err-read-clause-observed g c = if_some _ _ (λ files t.
     let locals = subst (λ ps. ReadsLocals c.args.env.now ps files (Ok c.in_ok-locals.locals.list)) c.as_slice.ensures (some_at _ _ files t c.in_ok-locals.ensures.observed) in
     let told = some_at _ _ files (c.in_ok-locals.ensures.folder.same_files ∙ t) c.in_err-read.ensures.observed in
     subst (Answers Was) (sym passed)
-    (refused-as (OnPart (λ (n : Counted). n.units.list) (ReadsUnits c.args.places.now files)) Was c.in_err-read.field-0.0
+    (refused-as (OnPart (λ (n : Counted). n.units) (ReadsUnits c.args.places.now files)) Was c.in_err-read.field-0.0
     (λ r h. then-refused c.args.env.now c.args.places.now c.args.extra.now c.args.paths.now files c.in_ok-locals.locals.list r locals h) told))
 
 pub returns-in_err-readings-clause-observed : goal.returns-in_err-readings-clause-observed
@@ -50,10 +50,10 @@ returns-in_err-readings-clause-observed g c = if_some _ _ (λ files t.
     let units = some_at _ _ files still c.in_ok-read.ensures.observed in
     let counts = some_at _ _ files still c.in_ok-read.ensures.counts in
     let told = some_at _ _ files (c.in_ok-read.ensures.folder.same_files ∙ still) c.in_err-readings.ensures.observed in
-    let ground : Ground = record { env = c.args.env.now; places = c.args.places.now; locals = c.in_ok-locals.locals.list; units = c.in_ok-read.read.units.list; extra = c.args.extra.now } in
+    let ground : Ground = record { env = c.args.env.now; places = c.args.places.now; locals = c.in_ok-locals.locals.list; units = c.in_ok-read.read.units; extra = c.args.extra.now } in
     subst (Answers Was) (sym passed)
     (refused-as (AreIndexed ground c.in_ok-read.read.totals.files c.in_ok-read.read.totals.bytes files) Was c.in_err-readings.field-0.0
-    (λ r h. then-indexed c.args.env.now c.args.places.now c.args.extra.now c.args.paths.now files c.in_ok-locals.locals.list c.in_ok-read.read.units.list c.in_ok-read.read.totals (Err r) locals units counts h) told))
+    (λ r h. then-indexed c.args.env.now c.args.places.now c.args.extra.now c.args.paths.now files c.in_ok-locals.locals.list c.in_ok-read.read.units c.in_ok-read.read.totals (Err r) locals units counts h) told))
 
 pub returns-clause-observed : goal.returns-clause-observed
 returns-clause-observed g c = if_some _ _ (λ files t.
@@ -62,7 +62,7 @@ returns-clause-observed g c = if_some _ _ (λ files t.
     let units = some_at _ _ files still c.in_ok-read.ensures.observed in
     let counts = some_at _ _ files still c.in_ok-read.ensures.counts in
     let told = some_at _ _ files (c.in_ok-read.ensures.folder.same_files ∙ still) c.in_ok-readings.ensures.observed in
-    then-indexed c.args.env.now c.args.places.now c.args.extra.now c.args.paths.now files c.in_ok-locals.locals.list c.in_ok-read.read.units.list c.in_ok-read.read.totals (Ok c.in_ok-readings.readings) locals units counts told)
+    then-indexed c.args.env.now c.args.places.now c.args.extra.now c.args.paths.now files c.in_ok-locals.locals.list c.in_ok-read.read.units c.in_ok-read.read.totals (Ok c.in_ok-readings.readings) locals units counts told)
 
 pub returns-clause-form : goal.returns-clause-form
 returns-clause-form g c =

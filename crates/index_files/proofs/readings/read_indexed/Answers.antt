@@ -14,13 +14,13 @@ pub returns-in_err-found-clause-observed : goal.returns-in_err-found-clause-obse
 returns-in_err-found-clause-observed g c = if_some _ _ (λ files t.
     let p = err_from_is_err_and c.from_residual-in_err-found.result c.from_residual-in_err-found.ensures.1 in
     let passed : c.from_residual-in_err-found.result ≡ Err (halt_of c.in_err-found.field-0.0) = p.1 ∙ ap Err p.2 in
-    let ground : Ground = record { env = c.args.env.now; places = c.args.places.now; locals = c.args.first.locals.list; units = c.args.first.counted.units.list; extra = c.args.extra.now } in
+    let ground : Ground = record { env = c.args.env.now; places = c.args.places.now; locals = c.args.first.locals.list; units = c.args.first.counted.units; extra = c.args.extra.now } in
     let Is = AreIndexed ground c.args.first.counted.totals.files c.args.first.counted.totals.bytes files in
     subst (Answers Is) (sym passed) (troubled Is c.in_err-found.field-0.0))
 
 pub returns-in_ok-too_many-in-None-clause-observed : goal.returns-in_ok-too_many-in-None-clause-observed
 returns-in_ok-too_many-in-None-clause-observed g c = if_some _ _ (λ files t.
-    let ground : Ground = record { env = c.args.env.now; places = c.args.places.now; locals = c.args.first.locals.list; units = c.args.first.counted.units.list; extra = c.args.extra.now } in
+    let ground : Ground = record { env = c.args.env.now; places = c.args.places.now; locals = c.args.first.locals.list; units = c.args.first.counted.units; extra = c.args.extra.now } in
     let n = c.args.first.counted.totals.files in
     let m = c.args.first.counted.totals.bytes in
     let told = some_at _ _ files t c.in_ok-found.ensures.observed in
@@ -29,7 +29,7 @@ returns-in_ok-too_many-in-None-clause-observed g c = if_some _ _ (λ files t.
 
 pub returns-in-Some-clause-observed : goal.returns-in-Some-clause-observed
 returns-in-Some-clause-observed g c = if_some _ _ (λ files t.
-    let ground : Ground = record { env = c.args.env.now; places = c.args.places.now; locals = c.args.first.locals.list; units = c.args.first.counted.units.list; extra = c.args.extra.now } in
+    let ground : Ground = record { env = c.args.env.now; places = c.args.places.now; locals = c.args.first.locals.list; units = c.args.first.counted.units; extra = c.args.extra.now } in
     let n = c.args.first.counted.totals.files in
     let m = c.args.first.counted.totals.bytes in
     let told = some_at _ _ files t c.in_ok-found.ensures.observed in
@@ -38,6 +38,6 @@ returns-in-Some-clause-observed g c = if_some _ _ (λ files t.
 
 pub returns-in-Some-clause-kept : goal.returns-in-Some-clause-kept
 returns-in-Some-clause-kept g c =
-    let ground : Ground = record { env = c.args.env.now; places = c.args.places.now; locals = c.args.first.locals.list; units = c.args.first.counted.units.list; extra = c.args.extra.now } in
+    let ground : Ground = record { env = c.args.env.now; places = c.args.places.now; locals = c.args.first.locals.list; units = c.args.first.counted.units; extra = c.args.extra.now } in
     let kept = some_at _ _ _ c.in-Some.is c.in_ok-found.ensures.kept in
-    subst (AreOverGround ground) (sym c.readings_of.ensures) (record { locals = refl; units = refl; units_formed = all-formed c.args.first.counted.units.list c.args.first.counted.units.formed; kept = kept })
+    subst (AreOverGround ground) (sym c.readings_of.ensures) (record { locals = refl; units = refl; units_formed = all-formed c.args.first.counted.units c.are_formed.ensures; kept = kept })

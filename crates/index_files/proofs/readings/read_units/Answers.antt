@@ -15,7 +15,7 @@ pub returns-in_err-paths-clause-observed : goal.returns-in_err-paths-clause-obse
 returns-in_err-paths-clause-observed g c = if_some _ _ (λ files t.
     let p = err_from_is_err_and c.from_residual.result c.from_residual.ensures.1 in
     let passed : c.from_residual.result ≡ Err (halt_of c.in_err-paths.field-0.0) = p.1 ∙ ap Err p.2 in
-    let Is = OnPart (λ (n : Counted). n.units.list) (ReadsUnits c.args.places.now files) in
+    let Is = OnPart (λ (n : Counted). n.units) (ReadsUnits c.args.places.now files) in
     subst (Answers Is) (sym passed) (troubled Is c.in_err-paths.field-0.0))
 
 pub returns-in_err-counted-clause-observed : goal.returns-in_err-counted-clause-observed
@@ -24,14 +24,14 @@ returns-in_err-counted-clause-observed g c = if_some _ _ (λ files t.
     let passed : c.from_residual-in_err-counted.result ≡ Err c.in_err-counted.field-0.0 = p.1 ∙ ap Err p.2 in
     let paths = c.as_slice.ensures ∙ some_at _ _ files t c.in_ok-paths.ensures.observed in
     let told = some_at _ _ files (c.in_ok-paths.ensures.folder.same_files ∙ t) c.in_err-counted.ensures.observed in
-    subst (Answers (OnPart (λ (n : Counted). n.units.list) (ReadsUnits c.args.places.now files))) (sym passed)
-    (subst (λ (ps : List Bytes). Answers (OnPart (λ (n : Counted). n.units.list) (AreUnitsOf c.args.places.now (map (file_found true files) ps))) (Err c.in_err-counted.field-0.0)) paths told))
+    subst (Answers (OnPart (λ (n : Counted). n.units) (ReadsUnits c.args.places.now files))) (sym passed)
+    (subst (λ (ps : List Bytes). Answers (OnPart (λ (n : Counted). n.units) (AreUnitsOf c.args.places.now (map (file_found true files) ps))) (Err c.in_err-counted.field-0.0)) paths told))
 
 pub returns-clause-observed : goal.returns-clause-observed
 returns-clause-observed g c = if_some _ _ (λ files t.
     let paths = c.as_slice.ensures ∙ some_at _ _ files t c.in_ok-paths.ensures.observed in
     let told = some_at _ _ files (c.in_ok-paths.ensures.folder.same_files ∙ t) c.in_ok-counted.ensures.observed in
-    subst (λ (ps : List Bytes). AreUnitsOf c.args.places.now (map (file_found true files) ps) (Ok c.in_ok-counted.counted.units.list)) paths told)
+    subst (λ (ps : List Bytes). AreUnitsOf c.args.places.now (map (file_found true files) ps) (Ok c.in_ok-counted.counted.units)) paths told)
 
 pub returns-clause-counts : goal.returns-clause-counts
 returns-clause-counts g c = if_some _ _ (λ files t.

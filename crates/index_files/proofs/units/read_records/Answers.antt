@@ -12,7 +12,6 @@ use Rattle.index_files.specs.Totals.{is_too_many}
 use Rattle.index_files.specs.Units.{AreUnitsOf, RecordComes, with_record}
 use Rattle.index_files.specs.declared.unit.Unit.{Unit}
 use Rattle.index_files.specs.declared.units.Counted.{Counted}
-use Rattle.index_files.specs.declared.units.Units.{Units}
 use Rattle.index_files.proofs.Forms.{units-once}
 use Rattle.index_files.proofs.KnownFiles.{map_split, map_take}
 use Rattle.index_files.proofs.Recording.{bytes-on, counts-first, files-on, fit-first, fit-on, units-all, units-beyond, units-halted}
@@ -43,7 +42,7 @@ loop-path-preserved g c =
     record {
       taken = (
         taken.0 ++ file ∷ [],
-        more RecordComes with_record [] c.loop-path.units.list c.in_ok-units.units.list taken.0 file taken.1 c.in_ok-units.ensures,
+        more RecordComes with_record [] c.loop-path.units c.in_ok-units.units taken.0 file taken.1 c.in_ok-units.ensures,
         fit-on taken.0 c.loop-path.totals _ _ file taken.2 less files_are bytes_are,
         record { files = files-on taken.0 c.loop-path.totals _ file taken.3 files_are; bytes = bytes-on taken.0 c.loop-path.totals _ file taken.3 bytes_are },
         λ files t.
@@ -57,7 +56,7 @@ pub returns-in_err-file-clause-observed : goal.returns-in_err-file-clause-observ
 returns-in_err-file-clause-observed g c = if_some _ _ (λ files t.
     let p = err_from_is_err_and c.from_residual.result c.from_residual.ensures.1 in
     let passed : c.from_residual.result ≡ Err (halt_of c.in_err-file.field-0.0) = p.1 ∙ ap Err p.2 in
-    let Is = OnPart (λ (n : Counted). n.units.list) (AreUnitsOf c.args.places.now (map (file_found true files) c.args.paths.now)) in
+    let Is = OnPart (λ (n : Counted). n.units) (AreUnitsOf c.args.places.now (map (file_found true files) c.args.paths.now)) in
     subst (Answers Is) (sym passed) (troubled Is c.in_err-file.field-0.0))
 
 pub returns-then-not-count-clause-observed : goal.returns-then-not-count-clause-observed
@@ -69,9 +68,9 @@ returns-then-not-count-clause-observed g c = if_some _ _ (λ files t.
     let all : map f c.args.paths.now ≡ (taken.0 ++ c.in_ok-file.file ∷ []) ++ split.0 = split.1 ∙ (λ i. (sym (taken.4 files t) i ++ sym found i ∷ []) ++ split.0) in
     let beyond : is_too_many (c.loop-path.totals.files + c.count.result) (c.loop-path.totals.bytes + c.size.result) ≡ true = not-false _ (sym c.if-not-count.ensures.fits) in
     let many = (λ i. is_too_many (c.loop-path.totals.files + sym c.count.ensures i) (c.loop-path.totals.bytes + sym c.size.ensures i)) ∙ beyond in
-    let Is = OnPart (λ (n : Counted). n.units.list) (AreUnitsOf c.args.places.now (map f c.args.paths.now)) in
+    let Is = OnPart (λ (n : Counted). n.units) (AreUnitsOf c.args.places.now (map f c.args.paths.now)) in
     subst (λ (h : Halt). Answers Is (Err h)) (sym c.in_ok-too_many.ensures)
-    (units-beyond c.args.places.now (map f c.args.paths.now) taken.0 c.loop-path.units.list c.loop-path.totals taken.2 taken.1 c.in_ok-file.file split.0 all many))
+    (units-beyond c.args.places.now (map f c.args.paths.now) taken.0 c.loop-path.units c.loop-path.totals taken.2 taken.1 c.in_ok-file.file split.0 all many))
 
 pub returns-in_err-units-clause-observed : goal.returns-in_err-units-clause-observed
 returns-in_err-units-clause-observed g c = if_some _ _ (λ files t.
@@ -84,15 +83,15 @@ returns-in_err-units-clause-observed g c = if_some _ _ (λ files t.
     let all : map f c.args.paths.now ≡ (taken.0 ++ c.in_ok-file.file ∷ []) ++ split.0 = split.1 ∙ (λ i. (sym (taken.4 files t) i ++ sym found i ∷ []) ++ split.0) in
     let few : is_too_many (c.loop-path.totals.files + c.count.result) (c.loop-path.totals.bytes + c.size.result) ≡ false = not-true _ (sym c.if-not-count.ensures.fits) in
     let less = (λ i. is_too_many (c.loop-path.totals.files + sym c.count.ensures i) (c.loop-path.totals.bytes + sym c.size.ensures i)) ∙ few in
-    let Is = OnPart (λ (n : Counted). n.units.list) (AreUnitsOf c.args.places.now (map f c.args.paths.now)) in
+    let Is = OnPart (λ (n : Counted). n.units) (AreUnitsOf c.args.places.now (map f c.args.paths.now)) in
     subst (Answers Is) (sym passed)
-    (units-halted c.args.places.now (map f c.args.paths.now) taken.0 c.loop-path.units.list c.loop-path.totals taken.2 taken.1 c.in_ok-file.file split.0 all less c.in_err-units.field-0.0 c.in_err-units.ensures))
+    (units-halted c.args.places.now (map f c.args.paths.now) taken.0 c.loop-path.units c.loop-path.totals taken.2 taken.1 c.in_ok-file.file split.0 all less c.in_err-units.field-0.0 c.in_err-units.ensures))
 
 pub returns-in_err-units-clause-folder : goal.returns-in_err-units-clause-folder
 returns-in_err-units-clause-folder g c =
     let p = err_from_is_err_and c.from_residual-in_err-units.result c.from_residual-in_err-units.ensures.1 in
     let passed : c.from_residual-in_err-units.result ≡ Err c.in_err-units.field-0.0 = p.1 ∙ ap Err p.2 in
-    let Is = OnPart (λ (u : Units). u.list) (Steps RecordComes with_record c.loop-path.units.list c.in_ok-file.file) in
+    let Is = Steps RecordComes with_record c.loop-path.units c.in_ok-file.file in
     onward _ _ _ _ _ (λ e. absurd (never-passed Is c.in_err-units.field-0.0 c.from_residual-in_err-units.result c.in_err-units.ensures passed e)) (λ e. absurd (cc e))
     c.loop-path.invariant.folder c.in_ok-file.ensures.folder
 
@@ -101,7 +100,7 @@ returns-clause-observed g c = if_some _ _ (λ files t.
     let f = file_found true files in
     let taken = c.loop-path.invariant.taken in
     let read : taken.0 ≡ map f c.args.paths.now = taken.4 files t ∙ ap (map f) (take_all c.loop-path.path-index c.args.paths.now c.loop-path-test.false) in
-    units-all c.args.places.now (map f c.args.paths.now) taken.0 c.loop-path.units.list c.loop-path.totals taken.2 taken.1 read)
+    units-all c.args.places.now (map f c.args.paths.now) taken.0 c.loop-path.units c.loop-path.totals taken.2 taken.1 read)
 
 pub returns-clause-counts : goal.returns-clause-counts
 returns-clause-counts g c = if_some _ _ (λ files t.
@@ -113,4 +112,4 @@ returns-clause-counts g c = if_some _ _ (λ files t.
 pub returns-clause-once : goal.returns-clause-once
 returns-clause-once g c =
     let taken = c.loop-path.invariant.taken in
-    units-once taken.0 c.loop-path.units.list (whole RecordComes with_record [] c.loop-path.units.list taken.0 taken.1)
+    units-once taken.0 c.loop-path.units (whole RecordComes with_record [] c.loop-path.units taken.0 taken.1)

@@ -11,7 +11,7 @@ use Rattle.index_files.proofs.units.read_records.Given as goal
 
 abbrev pub invariant-loop-path : goal.invariant-loop-path
 invariant-loop-path g l = record {
-  taken : (read : List ReadFile) × Through RecordComes with_record [] read l.units.list × Fit 0 0 read l.totals.files l.totals.bytes × CountsAll l.totals read
+  taken : (read : List ReadFile) × Through RecordComes with_record [] read l.units × Fit 0 0 read l.totals.files l.totals.bytes × CountsAll l.totals read
       × ((files : Files) → g.F.Folder.tells l.fn.folder ≡ Some files → read ≡ map (file_found true files) (take l.path-index l.paths));
   folder : Leaves g.F.Folder.tells g.F.Folder.faults l.fn.folder l.folder ⊥;
 }

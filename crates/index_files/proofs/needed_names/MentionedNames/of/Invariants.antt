@@ -5,4 +5,4 @@ use Rattle.index_files.specs.Units.{needed_among}
 use Rattle.index_files.proofs.needed_names.MentionedNames.of.Given as goal
 
 abbrev pub invariant-loop-unit : goal.invariant-loop-unit
-invariant-loop-unit l = (name : List ℕ) → needed_in l.needed name ≡ needed_among l.fn.units.list name (take l.unit-index l.fn.units.list)
+invariant-loop-unit l = (name : List ℕ) → needed_in l.needed name ≡ needed_among l.fn.units name (take l.unit-index l.fn.units)
