@@ -12,6 +12,7 @@ ghost use Rattle.index_files.specs.Sources.{bytes_in};
 ghost use Rattle.index_files.specs.Units.{AreUnitsOf, OfRecord, RecordComes, TakesFound, TakesUnit, is_well_formed, place_of, unit_id, unit_ids, with_found, with_record, with_unit};
 
 use crate::file::{ReadFile, read_file};
+use crate::file_source::bytes_of;
 use crate::totals::{Totals, too_many};
 use crate::unit::Unit;
 use indexmap::IndexSet;
@@ -184,14 +185,8 @@ fn record_in(alloc: Global, content: &Content) -> Result<Option<UnitRecord>, Fau
     ensures formed { IfOk result (λ found. IfSome found
         (λ r. (path : List ℕ) → is_well_formed (record { path = path; record_of = r }) ≡ true)) }
 {
-    match content {
-        Content::Missing => record_of(alloc, &[]),
-        Content::TooLarge => Err(Fault::At {
-            line: 0,
-            cause: Cause::TooLarge,
-        }),
-        Content::Bytes(bytes) => record_of(alloc, bytes.as_slice()),
-    }
+    let bytes = bytes_of(content)?;
+    record_of(alloc, bytes)
 }
 
 fn record_of(alloc: Global, bytes: &[u8]) -> Result<Option<UnitRecord>, Fault>
