@@ -15,7 +15,7 @@ ghost use Rattle.demand_cycles.specs.Cycles.{owner_of};
 
 use choice_problem::{Choice, ConflictSet, Demand, Values, Var, is_same, push_named};
 use demand_cycles::push_owner;
-use goal_links::Places;
+use goal_links::MentionPlaces;
 use plan_types::NoMemory;
 use std::alloc::Global;
 
@@ -35,7 +35,11 @@ fn is_broken(trail: &Values<'_>, d: &Demand) -> bool
 }
 
 /// The first of the demands at these places that refuses a choice.
-pub(crate) fn first_refusing(listed: &[Demand], places: Places<'_>, c: Choice) -> Option<usize>
+pub(crate) fn first_refusing(
+    listed: &[Demand],
+    places: MentionPlaces<'_>,
+    c: Choice,
+) -> Option<usize>
     requires { AllBelow (length listed.now) places }
     ensures found { find (refuses c) (demands_at listed.now places.entry) ≡ option_map (demand_at listed.now) result }
     ensures within { IfSome result (λ place. place < length listed.now) }
@@ -120,7 +124,7 @@ pub(crate) fn yes_among(
     alloc: Global,
     listed: &[Demand],
     trail: &Values<'_>,
-    places: Places<'_>,
+    places: MentionPlaces<'_>,
 ) -> Result<Vec<usize>, NoMemory>
     requires { AllBelow (length listed.now) places }
     ensures { IfOk result (λ found. found.items
@@ -204,7 +208,7 @@ pub(crate) fn are_naming(choices: &[Choice], v: Var) -> bool
 pub(crate) fn owners_at(
     alloc: Global,
     listed: &[Demand],
-    places: Places<'_>,
+    places: MentionPlaces<'_>,
 ) -> Result<Vec<Var>, NoMemory>
     requires { AllBelow (length listed.now) places }
     ensures { IfOk result (λ owners. owners.items ≡ owners_of (demands_at listed.now places.entry)) }
@@ -283,7 +287,7 @@ pub(crate) fn yes_targets_at(
     alloc: Global,
     listed: &[Demand],
     trail: &Values<'_>,
-    places: Places<'_>,
+    places: MentionPlaces<'_>,
     owner: Var,
 ) -> Result<Vec<Var>, NoMemory>
     requires { AllBelow (length listed.now) places }

@@ -12,7 +12,7 @@ ghost use Rattle.goal_links.specs.declared.mentions.Mention.{Mention};
 ghost use Rattle.choice_stack.specs.Open.{KeepsNeighbours, StayKept, MayComeBack, any_var, is_other, is_behind};
 
 use choice_problem::{Var, is_before};
-use goal_links::{Mention, Mentions, Places};
+use goal_links::{Mention, MentionPlaces, Mentions};
 use plan_types::NoMemory;
 use std::alloc::Global;
 use std::marker::Model;
@@ -81,7 +81,7 @@ impl Goals {
         self.mentions.names_entry(entry)
     }
 
-    pub(crate) fn places(&self, v: Var) -> Places<'_>
+    pub(crate) fn places(&self, v: Var) -> MentionPlaces<'_>
         ensures { result ≡ places_on v self.now.said }
     {
         self.mentions.places(v)

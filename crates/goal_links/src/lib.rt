@@ -13,4 +13,4 @@ mod vars;
 
 pub use links::Links;
 pub use mentions::{Mention, Mentions};
-pub use places::Places;
+pub use places::MentionPlaces;

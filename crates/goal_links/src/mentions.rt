@@ -9,7 +9,7 @@ ghost use Rattle.goal_links.specs.Links.{Entries, MayReturn, WasLinked, linked, 
 ghost use Rattle.goal_links.specs.Mentions.{KeepRow, indices_on, places_on, vars_at};
 
 use crate::links::Links;
-use crate::places::Places;
+use crate::places::MentionPlaces;
 use choice_problem::Var;
 use plan_types::NoMemory;
 use std::alloc::Global;
@@ -81,12 +81,12 @@ impl Mentions {
     }
 
     /// The places of the demands that mention a variable.
-    pub fn places(&self, v: Var) -> Places<'_>
+    pub fn places(&self, v: Var) -> MentionPlaces<'_>
         ensures { result ≡ places_on v self.now.said }
     {
         match self.links.entry_of(v) {
-            Some(entry) => Places::of(&self.links, entry),
-            None => Places::none(&self.links),
+            Some(entry) => MentionPlaces::of(&self.links, entry),
+            None => MentionPlaces::none(&self.links),
         }
     }
 

@@ -10,13 +10,13 @@ use std::marker::Model;
 
 /// The places of the demands that mention a variable, in order. Nothing is allocated.
 #[derive(Drop)]
-pub struct Places<'a> {
+pub struct MentionPlaces<'a> {
     links: &'a Links,
     // The cell of the next mention.
     at: Option<usize>,
 }
 
-impl<'a> Model for Places<'a> {
+impl<'a> Model for MentionPlaces<'a> {
     ghost use Rattle.std.specs.Prelude.{List, ℕ, IfSome};
     ghost use Rattle.goal_links.specs.Places.{IsInChain, places_from};
 
@@ -27,25 +27,25 @@ impl<'a> Model for Places<'a> {
     ghost invariant = { λ p. IfSome p.at (IsInChain p.links.now) };
 }
 
-impl<'a> Places<'a> {
+impl<'a> MentionPlaces<'a> {
     /// The places of the cells of an entry's chain.
-    pub(crate) fn of(links: &'a Links, entry: usize) -> Places<'a>
+    pub(crate) fn of(links: &'a Links, entry: usize) -> MentionPlaces<'a>
         requires entry { entry < length links.now.vars }
         requires once { AreOnce None (chain_at links.now.chains entry) }
         ensures { result ≡ map (place_at links.now.cells) (chain_at links.now.chains entry) }
     {
         let at = links.chain_first(entry);
-        Places { links, at }
+        MentionPlaces { links, at }
     }
 
-    pub(crate) fn none(links: &'a Links) -> Places<'a>
+    pub(crate) fn none(links: &'a Links) -> MentionPlaces<'a>
         ensures { result ≡ [] }
     {
-        Places { links, at: None }
+        MentionPlaces { links, at: None }
     }
 }
 
-impl<'a> Iterator for Places<'a> {
+impl<'a> Iterator for MentionPlaces<'a> {
     type Item = usize;
 
     ghost next_gives = { YieldsFirst (λ places. places) };

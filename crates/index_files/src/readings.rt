@@ -122,7 +122,8 @@ fn read_indexed<F: Folder>(
     ensures observed { IfSome (F.tells folder.old) (λ files. Answers
         (AreIndexed (ground_from env.now places.now first.locals first.counted.units extra.now)
         first.counted.totals.files first.counted.totals.bytes files) result) }
-    ensures kept { IfOk result (AreOverGround (ground_from env.now places.now first.locals first.counted.units extra.now)) }
+    ensures kept { IfOk result (AreOverGround
+        (ground_from env.now places.now first.locals first.counted.units extra.now)) }
     ensures folder { Leaves F.tells F.faults folder.old folder.new (IsErrOf result Halt.Failed) }
 {
     let ReadFirst { locals, counted } = first;

@@ -13,7 +13,7 @@ use std::alloc::Global;
 
 /// The fields of an `Element::Section`.
 #[derive(Drop)]
-struct SectionElement<'a> {
+struct ProjectSection<'a> {
     line: u32,
     name: &'a Text,
     args: &'a Text,
@@ -72,7 +72,7 @@ fn read_item(
             args,
             items,
         } => {
-            let section = SectionElement {
+            let section = ProjectSection {
                 line: *line,
                 name,
                 args,
@@ -101,7 +101,7 @@ fn place(
 fn read_section(
     alloc: Global,
     env: &Env,
-    section: &SectionElement<'_>,
+    section: &ProjectSection<'_>,
     chain: Option<bool>,
     parts: &mut List<ProjectPart>,
 ) -> Result<Option<bool>, NoMemory>
@@ -136,7 +136,7 @@ fn read_branch(
     alloc: Global,
     env: &Env,
     word: ProjectBranchWord,
-    section: &SectionElement<'_>,
+    section: &ProjectSection<'_>,
     chain: Option<bool>,
     parts: &mut List<ProjectPart>,
 ) -> Result<Option<bool>, NoMemory>

@@ -4,7 +4,7 @@ use Rattle.std.specs.Option.{IfSome}
 use Rattle.goal_links.specs.Mentions.{place_at}
 use Rattle.goal_links.specs.Places.{IsInChain, places_from}
 use Rattle.goal_links.proofs.ChainWalks.{more-from}
-use Rattle.goal_links.proofs.places.PlacesIterator.next.Goals as goal
+use Rattle.goal_links.proofs.places.MentionPlacesIterator.next.Goals as goal
 
 pub returns-clause-steps : goal.returns-clause-steps
 returns-clause-steps c =

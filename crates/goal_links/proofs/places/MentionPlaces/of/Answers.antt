@@ -1,7 +1,7 @@
 use Rattle.std.proofs.Common.{map, ap}
 use Rattle.goal_links.specs.Mentions.{place_at}
 use Rattle.goal_links.proofs.ChainWalks.{all-from, stays-in-chain}
-use Rattle.goal_links.proofs.places.Places.of.Goals as goal
+use Rattle.goal_links.proofs.places.MentionPlaces.of.Goals as goal
 
 pub invariant_of-result : goal.invariant_of-result
 invariant_of-result c =
