@@ -1,6 +1,6 @@
 // The stack of choices, and its undoing.
 ghost use Rattle.std.specs.Prelude.{◌≡◌, ◌≢◌, ◌<◌, ◌↔◌, ◌++◌, ◌&&◌, [], ◌∷◌, List, true, IsTrue, None, Some, is_none};
-ghost use Rattle.std.specs.Prelude.{MatchOption, IfOk, OnOk, OnErr, length, take, map, find, slice_get};
+ghost use Rattle.std.specs.Prelude.{MatchOption, IfOk, IfSome, OnOk, OnErr, length, take, map, find, slice_get};
 ghost use Rattle.std.specs.List.{Contains, list_any};
 ghost use Rattle.qualified_goals.specs.declared.variable.Var.{Var};
 ghost use Rattle.choice_problem.specs.Trail.{AreOfDifferentVars, value_in};
@@ -307,9 +307,16 @@ impl Stack {
         Ok(List::from_vec(owners))
     }
 
-    /// Whether few active demands are on a variable. It decides only what a search looks at first.
-    pub fn has_few_sources(&self, to: Var) -> bool {
-        self.goals.places(to).nth(FEW).is_none()
+    /// The same, or nothing where many active demands are on the variable.
+    pub fn few_sources(&self, alloc: Global, to: Var) -> Result<Option<List<Var>>, NoMemory>
+        ensures { IfOk result (λ few. IfSome few (λ found. (v : Var) →
+            (Contains found v) ↔ (HasEdge (edges_of self.now.active) v to))) }
+    {
+        if self.goals.places(to).nth(FEW).is_some() {
+            return Ok(None);
+        }
+        let found = self.sources(alloc, to)?;
+        Ok(Some(found))
     }
 
     /// The variables to which edges from this one lead.

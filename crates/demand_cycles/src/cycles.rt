@@ -34,13 +34,15 @@ pub trait Graph {
         ensures { IfOk result (λ found. (v : Var) →
             (Contains found v) ↔ (HasEdge (edges_of (demands self.now)) v to)) };
 
+    /// The same, or nothing where many edges lead to it. What is many decides only what is searched first.
+    fn few_sources(&self, alloc: Global, to: Var) -> Result<Option<List<Var>>, NoMemory>
+        ensures { IfOk result (λ few. IfSome few (λ found. (v : Var) →
+            (Contains found v) ↔ (HasEdge (edges_of (demands self.now)) v to))) };
+
     /// The variables to which edges from this one lead.
     fn targets(&self, alloc: Global, from: Var) -> Result<List<Var>, NoMemory>
         ensures { IfOk result (λ found. (v : Var) →
             (Contains found v) ↔ (HasEdge (edges_of (demands self.now)) from v)) };
-
-    /// Whether few edges lead to this variable. It decides only what is searched first.
-    fn has_few_sources(&self, to: Var) -> bool;
 
     /// Whether a variable is chosen. Only chosen variables have edges to others.
     fn is_chosen(&self, v: Var) -> bool
@@ -222,11 +224,9 @@ fn search_near<G: Graph>(
     ensures back { OnOk result (IsSide (edges_of (G.demands graph.now)) back.new) }
 {
     while is_near(back, from) {
-        let next = back.next();
-        if !graph.has_few_sources(next) {
+        let Some(sources) = graph.few_sources(alloc, back.next())? else {
             return Ok(());
-        }
-        let sources = graph.sources(alloc, next)?;
+        };
         back.add(sources.as_slice())?;
     }
     Ok(())

@@ -4,3 +4,4 @@ pub mod Settles
 pub mod Backs
 pub mod Weighed
 pub mod Disagreeing
+pub mod JoinedSources

@@ -121,16 +121,22 @@ impl<'a> Graph for Pending<'a> {
         Ok(all)
     }
 
+    fn few_sources(&self, alloc: Global, to: Var) -> Result<Option<List<Var>>, NoMemory> {
+        let Some(found) = self.stack.few_sources(alloc, to)? else {
+            return Ok(None);
+        };
+        let woken = self.woken.sources(alloc, to)?;
+        let fresh = self.fresh.sources(alloc, to)?;
+        let all = joined(found, woken, fresh)?;
+        Ok(Some(all))
+    }
+
     fn targets(&self, alloc: Global, from: Var) -> Result<List<Var>, NoMemory> {
         let found = self.stack.targets(alloc, from)?;
         let woken = self.woken.targets(alloc, from)?;
         let fresh = targets_within(alloc, &self.fresh, self.addition.choice.var, from)?;
         let all = joined(found, woken, fresh)?;
         Ok(all)
-    }
-
-    fn has_few_sources(&self, to: Var) -> bool {
-        self.stack.has_few_sources(to)
     }
 
     fn is_chosen(&self, v: Var) -> bool {

@@ -1,24 +1,15 @@
-use Rattle.std.proofs.Common.{◌↔◌, ◌∙◌, ◌++◌, List, sym, ap, subst}
-use Rattle.std.specs.List.{Contains}
-use Rattle.qualified_goals.specs.declared.variable.Var.{Var}
-use Rattle.choice_problem.specs.declared.problem.Demand.{Demand}
-use Rattle.choice_problem.specs.Conflict.{edges_of}
-use Rattle.demand_cycles.specs.Cycles.{HasEdge}
+use Rattle.std.proofs.Common.{◌∙◌, ◌++◌, sym, ap, subst}
 use Rattle.validation.specs.View.{View}
-use Rattle.choice_stack.proofs.DemandGraphs.{sources-are}
-use Rattle.validation.proofs.Weighed.{edge-either, edge-left, edge-right, found-joined, pending-active}
+use Rattle.validation.proofs.JoinedSources.{AreSources, joined-sources}
+use Rattle.validation.proofs.Weighed.{pending-active}
 use Rattle.validation.proofs.pending.PendingGraph.sources.Goals as goal
 
 pub returns : goal.returns
-returns c v =
+returns c =
     let i = c.self.inside in
+    let to = c.args.to in
     let active = pending-active i.stack.now i.addition.now i.woken i.fresh i.count c.self.invariant in
-    let woken : (u : Var) → (Contains c.in_ok-woken.woken u) ↔ ((λ (ds : List Demand) (v : Var). HasEdge (edges_of ds) v c.args.to) i.woken u) =
-    subst (λ (l : List Var). (u : Var) → (Contains l u) ↔ ((λ (ds : List Demand) (v : Var). HasEdge (edges_of ds) v c.args.to) i.woken u)) (sym c.in_ok-woken.ensures) (sources-are i.woken c.args.to) in
-    let fresh : (u : Var) → (Contains c.in_ok-fresh.fresh u) ↔ ((λ (ds : List Demand) (v : Var). HasEdge (edges_of ds) v c.args.to) i.fresh u) =
-    subst (λ (l : List Var). (u : Var) → (Contains l u) ↔ ((λ (ds : List Demand) (v : Var). HasEdge (edges_of ds) v c.args.to) i.fresh u)) (sym c.in_ok-fresh.ensures) (sources-are i.fresh c.args.to) in
-    let all = found-joined (λ (ds : List Demand) (v : Var). HasEdge (edges_of ds) v c.args.to) (λ xs ys v. edge-either xs ys v c.args.to) (λ xs ys v. edge-left xs ys v c.args.to) (λ xs ys v. edge-right xs ys v c.args.to)
-    i.stack.now.active i.woken i.fresh c.in_ok-found.found c.in_ok-woken.woken c.in_ok-fresh.fresh c.in_ok-found.ensures woken fresh v in
-    subst (λ (l : List Var). (Contains l v) ↔ (HasEdge (edges_of c.args.self.now.active) v c.args.to)) (sym c.in_ok-all.ensures)
-    (subst (λ (ds : List Demand). (Contains (c.in_ok-found.found ++ (c.in_ok-woken.woken ++ c.in_ok-fresh.fresh)) v) ↔ (HasEdge (edges_of ds) v c.args.to))
-    (sym active ∙ ap (λ (x : View). x.active) c.self.view_is) all)
+    let found = c.in_ok-found.found in
+    let all = joined-sources to i.stack.now.active i.woken i.fresh found c.in_ok-woken.woken c.in_ok-fresh.fresh c.in_ok-found.ensures c.in_ok-woken.ensures c.in_ok-fresh.ensures in
+    subst (AreSources to c.args.self.now.active) (sym c.in_ok-all.ensures)
+    (subst (λ ds. AreSources to ds (found ++ (c.in_ok-woken.woken ++ c.in_ok-fresh.fresh))) (sym active ∙ ap (λ (x : View). x.active) c.self.view_is) all)

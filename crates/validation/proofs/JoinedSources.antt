@@ -1,0 +1,21 @@
+-- The sources of a variable among the active demands and the pending ones.
+use Rattle.std.proofs.Common.{◌≡◌, ◌↔◌, ◌++◌, List, sym, subst}
+use Rattle.std.specs.List.{Contains}
+use Rattle.qualified_goals.specs.declared.variable.Var.{Var}
+use Rattle.choice_problem.specs.declared.problem.Demand.{Demand}
+use Rattle.choice_problem.specs.Conflict.{edges_of}
+use Rattle.demand_cycles.specs.Cycles.{HasEdge}
+use Rattle.choice_stack.specs.Stack.{sources_on}
+use Rattle.choice_stack.proofs.DemandGraphs.{sources-are}
+use Rattle.validation.proofs.Weighed.{edge-either, edge-left, edge-right, found-joined}
+
+-- edges of these demands lead from exactly these variables to the given one
+abbrev pub AreSources : Var → List Demand → List Var → Type 0
+AreSources to demands found = (v : Var) → (Contains found v) ↔ (HasEdge (edges_of demands) v to)
+
+pub joined-sources : (to : Var) (active woken fresh : List Demand) (found second third : List Var) → AreSources to active found → second ≡ sources_on to woken
+    → third ≡ sources_on to fresh → AreSources to (active ++ (woken ++ fresh)) (found ++ (second ++ third))
+joined-sources to active woken fresh found second third first is js =
+    let Leads = λ (ds : List Demand) (v : Var). HasEdge (edges_of ds) v to in
+    found-joined Leads (λ xs ys v. edge-either xs ys v to) (λ xs ys v. edge-left xs ys v to) (λ xs ys v. edge-right xs ys v to) active woken fresh found second third first
+    (subst (AreSources to woken) (sym is) (sources-are woken to)) (subst (AreSources to fresh) (sym js) (sources-are fresh to))
