@@ -1,16 +1,17 @@
 -- Paths with each setting once.
 use Rattle.std.proofs.Common.{◌≡◌, ℕ, Bool, true, false, not, ◌&&◌, cond, Option, Some, None, List, [], ◌∷◌, ◌++◌, refl, sym, ap, ◌∙◌, append-nil, arith}
-use Rattle.std.specs.Prelude.{filter}
+use Rattle.std.specs.Prelude.{filter, map}
+use Rattle.std.specs.Map.{lookup}
+use Rattle.indexmap.specs.IndexMap.{insert_entry}
 use Rattle.std.proofs.Math.Bool.{beq, and-false}
 use Rattle.std.specs.List.{list_all}
-use Rattle.std.specs.Ordering.{nat_cmp, is_eq}
-use Rattle.std.specs.Cmp.Lexicographic.{slice_cmp, bytes_decides}
+use Rattle.std.specs.Cmp.Lexicographic.{bytes_decides}
 use Rattle.std.proofs.lemmas.Bool.{and_parts}
-use Rattle.std.proofs.lemmas.Map.Text.{is_eq-slice_cmp}
 use Rattle.std.proofs.lemmas.List.Elements.{filter-append}
 use Rattle.std.proofs.lemmas.List.Folds.{list_all-append}
 use Rattle.plan_types.specs.declared.condition.FlagSet.{FlagSet}
 use Rattle.conditionals.specs.Value.{flag_in}
+use Rattle.conditionals.specs.Settings.{setting_of}
 use Rattle.conditionals.specs.Paths.{Path, is_same, agree, is_consistent, kept_once, clean_path}
 use Rattle.plan_types.specs.Bytes.{same_text}
 use Rattle.common_laws.specs.Small.{same-is}
@@ -135,10 +136,23 @@ consistent_push (t ∷ path) s = let more = consistent_push path s in let all = 
 
 -- ---- the settings in the map
 
-pub known_new : (old new : List ℕ → Option Bool) (key : List ℕ) (path : Path) (s : FlagSet) → key ≡ s.name → ((q : List ℕ) → new q ≡ cond (is_eq (slice_cmp nat_cmp key q)) (Some s.on) (old q)) → ((q : List ℕ) → old q ≡ flag_in path q) → flag_in path s.name ≡ None
+pub known_new : (old new : List ℕ → Option Bool) (path : Path) (s : FlagSet) → ((q : List ℕ) → new q ≡ cond (same_text s.name q) (Some s.on) (old q)) → ((q : List ℕ) → old q ≡ flag_in path q) → flag_in path s.name ≡ None
     → (q : List ℕ) → new q ≡ flag_in (path ++ s ∷ []) q
-known_new old new key path s k n o none q =
-    n q ∙ (λ i. cond ((is_eq-slice_cmp key q ∙ ap (λ name. same_text name q) k) i) (Some s.on) (o q i)) ∙ sym (flag_new path s q none)
+known_new old new path s n o none q = n q ∙ ap (cond (same_text s.name q) (Some s.on)) (o q) ∙ sym (flag_new path s q none)
+
+-- a flag that isn't in the map goes last
+pub entries_new : (entries : List (List ℕ × Bool)) (s : FlagSet) → lookup (same_text s.name) entries ≡ None
+    → map setting_of (insert_entry same_text entries s.name s.on) ≡ map setting_of entries ++ s ∷ []
+entries_new [] s none = refl
+entries_new (e ∷ entries) s none = by (same_text s.name e.0) refl none (entries_new entries s)
+  where
+    by : (b : Bool) → same_text s.name e.0 ≡ b → cond b (Some e.1) (lookup (same_text s.name) entries) ≡ None
+        → (lookup (same_text s.name) entries ≡ None → map setting_of (insert_entry same_text entries s.name s.on) ≡ map setting_of entries ++ s ∷ [])
+        → map setting_of (insert_entry same_text (e ∷ entries) s.name s.on) ≡ map setting_of (e ∷ entries) ++ s ∷ []
+    by true is n more = absurd (cc n)
+    by false is n more =
+        ap (λ b. map setting_of (cond b ((e.0, s.on) ∷ entries) (e ∷ insert_entry same_text entries s.name s.on))) is
+        ∙ ap (λ l. setting_of e ∷ l) (more n)
 
 pub not_clean : (path : Path) → is_consistent path ≡ false → None ≡ clean_path path
 not_clean path e = sym (ap (λ b. cond b (Some (kept_once path)) None) e)

@@ -1,6 +1,7 @@
 pub mod Environment
 pub mod Value
 pub mod Paths
+pub mod Settings
 pub mod Count
 pub mod Table
 pub mod Steps
