@@ -68,7 +68,7 @@ pub record IsOutward (d : Description) (dep : Dep) : Type 0 where
   pub component : Component
   pub guarded : GuardedDep
   pub in_components : Contains d.components component
-  pub in_deps : Contains component.deps guarded
+  pub in_deps : Contains component.build.deps guarded
   pub is_outward : Contains (outward d) (outward_of component guarded)
   pub external_is : not guarded.dep.internal ≡ true
   pub dep_is : guarded.dep ≡ dep
@@ -78,8 +78,8 @@ flat-outward env d flat h =
     let at = contains-flat_map (demands_at env) (outward d) flat h in
     let path = contains-map (flat_of at.0.component.kind at.0.guarded.dep) (clean_paths (paths_at env at.0)) flat at.2 in
     let component = contains-flat_map outward_in d.components at.0 at.1 in
-    let guarded = contains-map (outward_of component.0) (external component.0.deps) at.0 component.2 in
-    let kept = contains-filter (λ (g : GuardedDep). not g.dep.internal) component.0.deps guarded.0 guarded.1 in
+    let guarded = contains-map (outward_of component.0) (external component.0.build.deps) at.0 component.2 in
+    let kept = contains-filter (λ (g : GuardedDep). not g.dep.internal) component.0.build.deps guarded.0 guarded.1 in
     record {
       component = component.0;
       guarded = guarded.0;
@@ -90,9 +90,9 @@ flat-outward env d flat h =
       dep_is = ap (λ (o : ExternalDep). o.guarded.dep) guarded.2 ∙ ap (λ (f : FlatDep). f.dep) path.2;
     }
 
-pub in-component-deps : (d : Description) (component : Component) (guarded : GuardedDep) → Contains d.components component → Contains component.deps guarded → Contains (component_deps d) guarded.dep
+pub in-component-deps : (d : Description) (component : Component) (guarded : GuardedDep) → Contains d.components component → Contains component.build.deps guarded → Contains (component_deps d) guarded.dep
 in-component-deps d component guarded h k =
-    flat_map-contains (λ (c : Component). map (λ (g : GuardedDep). g.dep) c.deps) d.components component guarded.dep h (map-contains (λ (g : GuardedDep). g.dep) component.deps guarded k)
+    flat_map-contains (λ (c : Component). map (λ (g : GuardedDep). g.dep) c.build.deps) d.components component guarded.dep h (map-contains (λ (g : GuardedDep). g.dep) component.build.deps guarded k)
 
 module _ (index : Index) (names : NameTable) (numbers : AreNumbers index.packages names) where
   abbrev packages : List Package
@@ -133,16 +133,16 @@ module _ (index : Index) (names : NameTable) (numbers : AreNumbers index.package
       (all-at (has_package index) (asked ++ set_up) is.guarded.dep.«package» source.packages
       (contains-left asked set_up is.guarded.dep.«package» (map-contains (λ (o : ExternalDep). o.guarded.dep.«package») (outward d) (outward_of is.component is.guarded) is.is_outward)))
 
-  tool-asked : (d : Description) (guarded : GuardedDep) (component : Component) (t : ℕ) → Contains d.components component → Contains component.deps guarded → not guarded.dep.internal ≡ true
+  tool-asked : (d : Description) (guarded : GuardedDep) (component : Component) (t : ℕ) → Contains d.components component → Contains component.build.deps guarded → not guarded.dep.internal ≡ true
       → is_tool guarded.dep.kind ≡ true → is_number (number_of names.packages guarded.dep.«package») t ≡ true → list_any (component_depends names t) d.components ≡ true
   tool-asked d guarded component t h k out tool is =
       any-from (component_depends names t) d.components component h
-      (any-from (λ (g : GuardedDep). is_tool_of names t g.dep) component.deps guarded k
+      (any-from (λ (g : GuardedDep). is_tool_of names t g.dep) component.build.deps guarded k
       (and_from (not guarded.dep.internal && is_tool guarded.dep.kind) (is_number (number_of names.packages guarded.dep.«package») t) (and_from (not guarded.dep.internal) (is_tool guarded.dep.kind) out tool) is))
 
   -- the qualifier of the dependency has variables
   pub kind-found : (p : ℕ) (e : Entry) (d : Description) (flats : List FlatDep) (offer : Exposed) (guarded : GuardedDep) (component : Component) (k : DepKind) → guarded.dep.kind ≡ k
-      → Contains (entries_of packages p) e → e.body ≡ Source d flats offer → Contains d.components component → Contains component.deps guarded → not guarded.dep.internal ≡ true
+      → Contains (entries_of packages p) e → e.body ≡ Source d flats offer → Contains d.components component → Contains component.build.deps guarded → not guarded.dep.internal ≡ true
       → is_of_components guarded.dep.kind ≡ true → has_package index guarded.dep.«package» ≡ true → has_qual_for packages names p k guarded.dep.«package» ≡ true
   kind-found p e d flats offer guarded component kind.Library same there body in_d in_c out comp found = refl
   kind-found p e d flats offer guarded component kind.Tool same there body in_d in_c out comp found =

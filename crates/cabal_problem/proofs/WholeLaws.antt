@@ -49,8 +49,8 @@ use Rattle.plan_types.specs.Packages.{entries_of}
 outward-at : (d : Description) (at : ExternalDep) → Contains (outward d) at → IsOutward d at.guarded.dep
 outward-at d at h =
     let component = contains-flat_map outward_in d.components at h in
-    let guarded = contains-map (outward_of component.0) (external component.0.deps) at component.2 in
-    let kept = contains-filter (λ (g : GuardedDep). not g.dep.internal) component.0.deps guarded.0 guarded.1 in
+    let guarded = contains-map (outward_of component.0) (external component.0.build.deps) at component.2 in
+    let kept = contains-filter (λ (g : GuardedDep). not g.dep.internal) component.0.build.deps guarded.0 guarded.1 in
     record {
       component = component.0;
       guarded = guarded.0;

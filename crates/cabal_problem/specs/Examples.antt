@@ -34,7 +34,7 @@ main = record {
   version = record { parts = 1 ∷ [] };
   custom = true;
   flags = fast true ∷ [];
-  components = record { line = 6; kind = Test; name = codes "spec"; public = false; buildable = Always; deps = [] } ∷ [];
+  components = record { line = 6; kind = Test; name = codes "spec"; public = false; build = record { buildable = Always; deps = [] } } ∷ [];
   setup = [];
   digest = [];
   warnings = [];

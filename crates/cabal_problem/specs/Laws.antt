@@ -81,7 +81,7 @@ module _ (packages : List Package) (names : NameTable) where
   tool-below : (t : ℕ) (body : Body) → depends_on_tool names t body ≡ true → t < length names.packages
   tool-below t (Source d flats exposed) h =
       let component = any-at (component_depends names t) d.components h in
-      let guarded = any-at (λ (g : GuardedDep). is_tool_of names t g.dep) component.0.deps component.2 in
+      let guarded = any-at (λ (g : GuardedDep). is_tool_of names t g.dep) component.0.build.deps component.2 in
       let test = is_number (number_of names.packages guarded.0.dep.«package») t in
       position-below (same_text guarded.0.dep.«package») names.packages t ((and_parts (not guarded.0.dep.internal && is_tool guarded.0.dep.kind) test guarded.2).1)
   tool-below t (Installed unit needs) h = absurd (false≢true h)

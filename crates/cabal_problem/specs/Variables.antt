@@ -45,7 +45,7 @@ is_tool_of names t dep = not dep.internal && is_tool dep.kind && is_number (numb
 
 -- whether a component depends on this tool
 abbrev pub component_depends : NameTable → ℕ → Component → Bool
-component_depends names t component = list_any (λ guarded. is_tool_of names t guarded.dep) component.deps
+component_depends names t component = list_any (λ guarded. is_tool_of names t guarded.dep) component.build.deps
 
 -- whether a source instance depends on this tool, under any condition
 abbrev pub depends_on_tool : NameTable → ℕ → Body → Bool

@@ -91,7 +91,7 @@ fn some_component_asks(names: &Names, t: u64, d: &Description) -> bool
 fn component_depends(names: &Names, t: u64, component: &Component) -> bool
     ensures { result ≡ component_depends names.now t component.now }
 {
-    some_group_asks(names, t, component.deps.groups())
+    some_group_asks(names, t, component.build.groups())
 }
 
 fn some_group_asks(names: &Names, t: u64, groups: &[DepGroup]) -> bool

@@ -100,17 +100,17 @@ of-setup dep_kind.Setup h = refl
 one-piece : (custom : Bool) (ks : List ℕ) (piece : Piece) → custom ≡ false → Contains (as_pieces custom ks) piece → (k : ℕ) × Contains ks k × (One k ≡ piece)
 one-piece custom ks piece is h = contains-map One ks piece (subst (λ b. Contains (as_pieces b ks) piece) is h)
 
-among-deps : (d : Description) (component : Component) (guarded : GuardedDep) → Contains d.components component → Contains component.deps guarded → Contains (component_deps d) guarded.dep
+among-deps : (d : Description) (component : Component) (guarded : GuardedDep) → Contains d.components component → Contains component.build.deps guarded → Contains (component_deps d) guarded.dep
 among-deps d component guarded inside dep_inside =
-    flat_map-contains (λ (x : Component). map (λ (y : GuardedDep). y.dep) x.deps) d.components component guarded.dep inside
-    (map-contains (λ (y : GuardedDep). y.dep) component.deps guarded dep_inside)
+    flat_map-contains (λ (x : Component). map (λ (y : GuardedDep). y.dep) x.build.deps) d.components component guarded.dep inside
+    (map-contains (λ (y : GuardedDep). y.dep) component.build.deps guarded dep_inside)
 
-outward-there : (d : Description) (component : Component) (guarded : GuardedDep) → Contains d.components component → Contains component.deps guarded → guarded.dep.internal ≡ false
+outward-there : (d : Description) (component : Component) (guarded : GuardedDep) → Contains d.components component → Contains component.build.deps guarded → guarded.dep.internal ≡ false
     → Contains (outward d) (outward_of component guarded)
 outward-there d component guarded inside dep_inside out =
     flat_map-contains outward_in d.components component (outward_of component guarded) inside
-    (map-contains (outward_of component) (external component.deps) guarded
-    (filter-contains (λ (other : GuardedDep). not other.dep.internal) component.deps guarded dep_inside (ap not out)))
+    (map-contains (outward_of component) (external component.build.deps) guarded
+    (filter-contains (λ (other : GuardedDep). not other.dep.internal) component.build.deps guarded dep_inside (ap not out)))
 
 -- ---- a source instance
 
@@ -140,7 +140,7 @@ module _ (g : Given) (node : Node) (d : Description) (flats : List FlatDep) (off
 
   -- a dependency on another package that counts
   pub dep-edge : (component : Component) (guarded : GuardedDep) (need : Need) → Contains d.components component → is_asked (selection g) q p component.kind ≡ true
-      → Contains component.deps guarded → guarded.dep.internal ≡ false → condition_holds g.env (flags g q p d flats offer c) (whole_condition component guarded) ≡ true
+      → Contains component.build.deps guarded → guarded.dep.internal ≡ false → condition_holds g.env (flags g q p d flats offer c) (whole_condition component guarded) ≡ true
       → Contains (dep_needs (selection g) node guarded.dep) need → PackageEdge g (var_of node) (var_of need.node)
   dep-edge component guarded need inside wanted dep_inside out counts_so h =
       let dep = guarded.dep in
@@ -178,7 +178,7 @@ module _ (g : Given) (node : Node) (d : Description) (flats : List FlatDep) (off
 
   -- a dependency on the package itself
   pub own-edge : (place : ℕ) (component : Component) (guarded : GuardedDep) (need : Need) → body_at (selection g) q p ≡ Some body → node.piece ≡ One place → d.custom ≡ false
-      → slice_get d.components place ≡ Some component → Contains component.deps guarded → guarded.dep.internal ≡ true
+      → slice_get d.components place ≡ Some component → Contains component.build.deps guarded → guarded.dep.internal ≡ true
       → Contains (dep_needs (selection g) node guarded.dep) need → IsInner (selection g) node need.node
   own-edge place component guarded need chosen piece_is simple at dep_inside own h =
       let dep = guarded.dep in
@@ -203,7 +203,7 @@ module _ (g : Given) (node : Node) (d : Description) (flats : List FlatDep) (off
       let same : node_of q p (One one.0) ≡ need.node =
       ap (node_of q p) one.2 ∙ ap (λ k. node_of q k found.0) (sym t_is) ∙ ap (λ k. node_of k t found.0) (sym q_is) ∙ ap (λ (n : Need). n.node) found.2 in
       let need_is : needs component other.component ≡ true =
-      any-from (λ (x : GuardedDep). x.dep.internal && asks_for x.dep.kind x.dep other.component) component.deps guarded dep_inside
+      any-from (λ (x : GuardedDep). x.dep.internal && asks_for x.dep.kind x.dep other.component) component.build.deps guarded dep_inside
       (and_from dep.internal (asks_for dep.kind dep other.component) own (means-for dep.kind dep other.component of_components other.passes)) in
       subst (IsInner (selection g) node) same (record {
         qual_is = refl;
@@ -230,9 +230,9 @@ module _ (g : Given) (node : Node) (d : Description) (flats : List FlatDep) (off
       let stands = fits.1 in
       let component = stands.component in
       let there : Contains (component_needs (selection g) node values true component) need = subst (λ o. Contains (one_needs (selection g) node values o) need) stands.at h in
-      let from = contains-flat_map (λ (x : GuardedDep). dep_needs (selection g) node x.dep) (filter (counts (selection g) values true component) component.deps) need there in
+      let from = contains-flat_map (λ (x : GuardedDep). dep_needs (selection g) node x.dep) (filter (counts (selection g) values true component) component.build.deps) need there in
       let guarded = from.0 in
-      let kept = contains-filter (counts (selection g) values true component) component.deps guarded from.1 in
+      let kept = contains-filter (counts (selection g) values true component) component.build.deps guarded from.1 in
       elim guarded.dep.internal as (λ b. guarded.dep.internal ≡ b → IsEdgeTo need) [
         | true ↦ λ own. inr (own-edge place component guarded need at piece_is fits.0 stands.at kept.0 own from.2)
         | false ↦ λ out. inl (dep-edge component guarded need (contains-at d.components place component stands.at) stands.passes kept.0 out kept.1 from.2)
@@ -244,11 +244,11 @@ module _ (g : Given) (node : Node) (d : Description) (flats : List FlatDep) (off
       let of = contains-flat_map (component_needs (selection g) node values false) (filter (is_wanted_under (selection g) q p values) d.components) need a in
       let component = of.0 in
       let wanted = contains-filter (is_wanted_under (selection g) q p values) d.components component of.1 in
-      let from = contains-flat_map (λ (x : GuardedDep). dep_needs (selection g) node x.dep) (filter (counts (selection g) values false component) component.deps) need of.2 in
+      let from = contains-flat_map (λ (x : GuardedDep). dep_needs (selection g) node x.dep) (filter (counts (selection g) values false component) component.build.deps) need of.2 in
       let guarded = from.0 in
-      let kept = contains-filter (counts (selection g) values false component) component.deps guarded from.1 in
+      let kept = contains-filter (counts (selection g) values false component) component.build.deps guarded from.1 in
       let both = and_parts (not guarded.dep.internal) (condition_holds g.env values (whole_condition component guarded)) kept.1 in
-      let asked = (and_parts (is_asked (selection g) q p component.kind) (condition_holds g.env values component.buildable) wanted.1).0 in
+      let asked = (and_parts (is_asked (selection g) q p component.kind) (condition_holds g.env values component.build.buildable) wanted.1).0 in
       inl (dep-edge component guarded need wanted.0 asked kept.0 (not-true guarded.dep.internal both.0) both.1 from.2))
       (λ b.
       let of = contains-flat_map (dep_needs (selection g) node) d.setup need b in
@@ -339,7 +339,7 @@ module _ (g : Given) (node : Node) (w : IsWell (selection g) node) (need : Need)
   one-well : (set_so : List FlagSet) (o : Option Component) → Contains (one_needs (selection g) node set_so o) need → IsWell (selection g) need.node
   one-well set_so None k = absurd (contains-none need k)
   one-well set_so (Some component) k =
-      let from = contains-flat_map (λ (x : GuardedDep). dep_needs (selection g) node x.dep) (filter (counts (selection g) set_so true component) component.deps) need k in
+      let from = contains-flat_map (λ (x : GuardedDep). dep_needs (selection g) node x.dep) (filter (counts (selection g) set_so true component) component.build.deps) need k in
       need-well (selection g) node from.0.dep need from.2
 
   piece-well : (set_so : List FlagSet) (d : Description) (piece : Piece) → Contains (piece_needs (selection g) node set_so d piece) need → IsWell (selection g) need.node
@@ -347,7 +347,7 @@ module _ (g : Given) (node : Node) (w : IsWell (selection g) node) (need : Need)
   piece-well set_so d Whole k = ⊎_elim
       (λ a.
       let of = contains-flat_map (component_needs (selection g) node set_so false) (filter (is_wanted_under (selection g) node.qual node.«package» set_so) d.components) need a in
-      let from = contains-flat_map (λ (x : GuardedDep). dep_needs (selection g) node x.dep) (filter (counts (selection g) set_so false of.0) of.0.deps) need of.2 in
+      let from = contains-flat_map (λ (x : GuardedDep). dep_needs (selection g) node x.dep) (filter (counts (selection g) set_so false of.0) of.0.build.deps) need of.2 in
       need-well (selection g) node from.0.dep need from.2)
       (λ b.
       let of = contains-flat_map (dep_needs (selection g) node) d.setup need b in

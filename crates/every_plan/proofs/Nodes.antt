@@ -104,7 +104,7 @@ module _ (selection : Selection) where
 
     of-component : (flags : List FlagSet) (own : Bool) (component : Component) → AreWithin (component_needs selection node flags own component)
     of-component flags own component need c =
-        let found = contains-flat_map (λ (guarded : GuardedDep). dep_needs selection node guarded.dep) (filter (counts selection flags own component) component.deps) need c in
+        let found = contains-flat_map (λ (guarded : GuardedDep). dep_needs selection node guarded.dep) (filter (counts selection flags own component) component.build.deps) need c in
         of-dep found.0.dep need found.2
 
     of-one : (flags : List FlagSet) (component : Option Component) → AreWithin (one_needs selection node flags component)

@@ -68,9 +68,9 @@ filter_none test (x ∷ xs) e = by (test x) e (λ f. filter_none test xs f)
     by true f more = absurd (cc f)
     by false f more = more f
 
-module _ (env : Env) (component : Component) (none : list_any (λ guarded. not guarded.dep.internal) component.deps ≡ false) where
+module _ (env : Env) (component : Component) (none : list_any (λ guarded. not guarded.dep.internal) component.build.deps ≡ false) where
   nothing_outward : outward_in component ≡ []
-  nothing_outward = ap (map (outward_of component)) (filter_none (λ guarded. not guarded.dep.internal) component.deps none)
+  nothing_outward = ap (map (outward_of component)) (filter_none (λ guarded. not guarded.dep.internal) component.build.deps none)
 
   pub nothing_beyond : first_among env (outward_in component) ≡ None
   nothing_beyond = ap (first_among env) nothing_outward
@@ -88,18 +88,18 @@ module _ (env : Env) (component : Component) (guarded : GuardedDep) where
   at = outward_of component guarded
 
   abbrev first : List Path
-  first = paths_of env component.buildable true
+  first = paths_of env component.build.buildable true
 
   abbrev second : List Path
   second = paths_of env guarded.when true
 
   paths_are : paths_at env at ≡ followed first second
-  paths_are = paths-And env true component.buildable guarded.when
+  paths_are = paths-And env true component.build.buildable guarded.when
 
   size_is : length (paths_at env at) ≡ length first * length second
   size_is = ap length paths_are ∙ length_followed first second
 
-  pub number_is : {ways met : Ways} {number : ℕ} → ways ≡ ways_of env component.buildable → met ≡ ways_of env guarded.when → number ≡ capped (ways.number * met.number) → number ≡ capped (length (paths_at env at))
+  pub number_is : {ways met : Ways} {number : ℕ} → ways ≡ ways_of env component.build.buildable → met ≡ ways_of env guarded.when → number ≡ capped (ways.number * met.number) → number ≡ capped (length (paths_at env at))
   number_is known own is = is ∙ (λ i. capped ((known i).number * (own i).number)) ∙ capped_product (length first) (length second) ∙ ap capped (sym size_is)
 
   module _ {number : ℕ} (is : number ≡ capped (length (paths_at env at))) where
@@ -114,7 +114,7 @@ module _ (env : Env) (component : Component) (guarded : GuardedDep) where
         let nil = nil_from_length (paths_at env at) (nothing number (length (paths_at env at)) is none) in
         sym (ap (λ paths. flat ++ map (flat_of component.kind guarded.dep) (clean_paths paths)) nil ∙ append-nil flat)
 
-    pub joined_are : {ways met : Ways} {joined : List Path} → number ≤ 256 → number ≢ 0 → ways ≡ ways_of env component.buildable → met ≡ ways_of env guarded.when → joined ≡ clean_paths (followed ways.paths met.paths) → joined ≡ clean_paths (paths_at env at)
+    pub joined_are : {ways met : Ways} {joined : List Path} → number ≤ 256 → number ≢ 0 → ways ≡ ways_of env component.build.buildable → met ≡ ways_of env guarded.when → joined ≡ clean_paths (followed ways.paths met.paths) → joined ≡ clean_paths (paths_at env at)
     joined_are less some known own made =
         let each = both_few (length first) (length second) (length (paths_at env at)) number size_is is less some in
         let front = ap (λ w. w.paths) known ∙ few_are first each.0 in
@@ -124,13 +124,13 @@ module _ (env : Env) (component : Component) (guarded : GuardedDep) where
         ∙ cleaned_before_joined first second
         ∙ ap clean_paths (sym paths_are)
 
-  pub within-both : {ways met : Ways} → ways ≡ ways_of env component.buildable → met ≡ ways_of env guarded.when → number_of_both ways met ≤ 256 → has_too_many_paths env at ≡ false
+  pub within-both : {ways met : Ways} → ways ≡ ways_of env component.build.buildable → met ≡ ways_of env guarded.when → number_of_both ways met ≤ 256 → has_too_many_paths env at ≡ false
   within-both known own less = within (number_is known own refl) less
 
-  pub beyond-both : {ways met : Ways} → ways ≡ ways_of env component.buildable → met ≡ ways_of env guarded.when → 256 < number_of_both ways met → has_too_many_paths env at ≡ true
+  pub beyond-both : {ways met : Ways} → ways ≡ ways_of env component.build.buildable → met ≡ ways_of env guarded.when → 256 < number_of_both ways met → has_too_many_paths env at ≡ true
   beyond-both known own more = beyond (number_is known own refl) more
 
-  pub asked-both : {ways met : Ways} → ways ≡ ways_of env component.buildable → met ≡ ways_of env guarded.when → number_of_both ways met ≤ 256
+  pub asked-both : {ways met : Ways} → ways ≡ ways_of env component.build.buildable → met ≡ ways_of env guarded.when → number_of_both ways met ≤ 256
       → map (flat_of component.kind guarded.dep) (paths_of_both ways met) ≡ demands_at env at
   asked-both {ways} {met} known own less = ap (map (flat_of component.kind guarded.dep)) (by (number_of_both ways met) refl)
     where

@@ -34,7 +34,7 @@ outward_among component deps = map (outward_of component) (external deps)
 
 -- all dependencies of a component on other packages
 abbrev pub outward_in : Component → List ExternalDep
-outward_in component = outward_among component component.deps
+outward_in component = outward_among component component.build.deps
 
 -- all dependencies on other packages, in file order of the components
 abbrev pub outward : Description → List ExternalDep

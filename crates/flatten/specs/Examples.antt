@@ -46,7 +46,7 @@ on_own_exe name = record { line = 1; kind = dep_kind.Tool; «package» = codes "
 
 -- a component with these dependencies
 abbrev pub component : CompKind → List ℕ → Cond → List GuardedDep → Component
-component kind name buildable deps = record { line = 1; kind = kind; name = name; public = false; buildable = buildable; deps = deps }
+component kind name buildable deps = record { line = 1; kind = kind; name = name; public = false; build = record { buildable = buildable; deps = deps } }
 
 -- a dependency under a condition
 abbrev pub under : Cond → Dep → GuardedDep

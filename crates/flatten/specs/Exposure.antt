@@ -20,7 +20,7 @@ is_no Unknown = false
 
 -- the component is unbuildable whatever the flags: its condition is No with no flag known
 abbrev pub is_unbuildable : Env → Component → Bool
-is_unbuildable env component = is_no (value env (λ _. None) component.buildable)
+is_unbuildable env component = is_no (value env (λ _. None) component.build.buildable)
 
 -- the library of this name, if it is the main one or public
 abbrev pub lib_named : List ℕ → Bool → List LibName

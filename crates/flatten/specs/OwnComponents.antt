@@ -47,7 +47,7 @@ finds_all dep_kind.Setup dep components = false
 
 -- whether an internal dependency of the first is on the second, under any condition
 abbrev pub needs : Component → Component → Bool
-needs component other = list_any (λ guarded. guarded.dep.internal && asks_for guarded.dep.kind guarded.dep other) component.deps
+needs component other = list_any (λ guarded. guarded.dep.internal && asks_for guarded.dep.kind guarded.dep other) component.build.deps
 
 -- a path of needs from one component to another
 pub data Leads (components : List Component) : Component → Component → Type 0 where

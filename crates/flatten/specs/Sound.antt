@@ -36,7 +36,7 @@ use Rattle.plan_types.specs.Packages.{is_library, is_installed}
 
 -- all dependencies of the components, internal ones too
 abbrev pub component_deps : Description → List Dep
-component_deps d = flat_map (λ component. map (λ guarded. guarded.dep) component.deps) d.components
+component_deps d = flat_map (λ component. map (λ guarded. guarded.dep) component.build.deps) d.components
 
 -- whether the dependency is of a component
 abbrev pub is_of_components : DepKind → Bool
@@ -52,7 +52,7 @@ is_of_setup Setup = true
 
 -- all conditions of a description
 abbrev pub conditions : Description → List Cond
-conditions d = flat_map (λ component. component.buildable ∷ map (λ guarded. guarded.when) component.deps) d.components
+conditions d = flat_map (λ component. component.build.buildable ∷ map (λ guarded. guarded.when) component.build.deps) d.components
 
 -- a flag of this name is declared
 abbrev pub declares_flag : Description → List ℕ → Bool

@@ -6,4 +6,4 @@ use Rattle.plan_types.specs.Guarded.{GuardedDep}
 
 -- its component is buildable, and its branches are taken
 abbrev pub whole_condition : Component → GuardedDep → Cond
-whole_condition component guarded = And component.buildable guarded.when
+whole_condition component guarded = And component.build.buildable guarded.when

@@ -9,12 +9,12 @@ ghost use Rattle.flatten.specs.Ways.{number_of_both, paths_of_both, ways_of};
 ghost use Rattle.plan_types.specs.Guarded.{of_group};
 ghost use Rattle.impossible_conditions.specs.Outlook.{IsOutlookAt};
 
-use crate::ways::{Ways, one_way, ways_of};
+use crate::ways::{Ways, ways_of};
 use conditionals::{MOST_PATHS, joined_paths};
 use impossible_conditions::{Outlook, outlooks};
 use plan_types::{
-    Cause, CompKind, Component, Cond, Dep, DepGroup, Description, Env, Fault, FlagSet, FlatDep,
-    List, Literal, NoMemory, PartName, Shared,
+    Cause, CompKind, Component, Dep, DepGroup, Description, Env, Fault, FlagSet, FlatDep, List,
+    Literal, NoMemory, PartName, Shared,
 };
 use std::alloc::Global;
 
@@ -53,20 +53,15 @@ fn push_component(
         × (first_among env.now (outward_in component.now) ≡ Some line))) }
 {
     if asks_others(component) {
-        let ways = ways_to_build(alloc, component, env)?;
-        let built = BuiltComponent {
-            component,
-            ways: &ways,
-        };
-        push_outward(alloc, flat, &built, env)?;
+        push_outward(alloc, flat, component, env)?;
     }
     Ok(())
 }
 
 fn asks_others(component: &Component) -> bool
-    ensures { result ≡ list_any (λ guarded. not guarded.dep.internal) component.now.deps }
+    ensures { result ≡ list_any (λ guarded. not guarded.dep.internal) component.now.build.deps }
 {
-    some_has_others(component.deps.groups())
+    some_has_others(component.build.groups())
 }
 
 fn some_has_others(groups: &[DepGroup]) -> bool
@@ -81,37 +76,28 @@ fn has_others(group: &DepGroup) -> bool
     group.deps.as_slice().iter().any(|dep| !dep.get().internal)
 }
 
-// A component without `buildable: False` needs no outlooks for it.
-fn ways_to_build(alloc: Global, component: &Component, env: &Env) -> Result<Ways, NoMemory>
-    ensures { IfOk result (λ ways. ways ≡ ways_of env.now component.now.buildable) }
-{
-    let cond = component.buildable.get();
-    if matches!(cond, Cond::Always) {
-        return one_way(alloc, env);
-    }
-    let (conds, place) = component.buildable.place();
-    let outlooks = outlooks(alloc, conds, env)?;
-    ways_of(alloc, cond, &outlooks, place, env)
-}
-
-// The demands of a component. The outlooks of all conditions are computed once.
+// The demands of a component. The outlooks of all its conditions are computed once.
 fn push_outward(
     alloc: Global,
     flat: &mut List<FlatDep>,
-    built: &BuiltComponent<'_>,
+    component: &Component,
     env: &Env,
 ) -> Result<(), Fault>
-    requires { built.now.ways.now ≡ ways_of env.now built.now.component.now.buildable }
-    ensures none_beyond { OnOk result (first_among env.now (outward_in built.now.component.now) ≡ None) }
+    ensures none_beyond { OnOk result (first_among env.now (outward_in component.now) ≡ None) }
     ensures demands { OnOk result (flat.new
-        ≡ flat.old ++ flat_map (demands_at env.now) (outward_in built.now.component.now)) }
+        ≡ flat.old ++ flat_map (demands_at env.now) (outward_in component.now)) }
     ensures refused { IfErr result (RefusesAt (λ line cause. (cause ≡ TooManyPaths)
-        × (first_among env.now (outward_in built.now.component.now) ≡ Some line))) }
+        × (first_among env.now (outward_in component.now) ≡ Some line))) }
 {
-    let (conds, groups) = built.component.deps.tabled();
+    let (conds, place, groups) = component.build.tabled();
     let outlooks = outlooks(alloc, conds, env)?;
+    let ways = ways_of(alloc, component.build.buildable(), &outlooks, place, env)?;
+    let built = BuiltComponent {
+        component,
+        ways: &ways,
+    };
     for group in groups {
-        push_group(alloc, flat, built, group, &outlooks, env)?;
+        push_group(alloc, flat, &built, group, &outlooks, env)?;
     }
     Ok(())
 }
@@ -125,7 +111,7 @@ fn push_group(
     outlooks: &[Outlook],
     env: &Env,
 ) -> Result<(), Fault>
-    requires ways { built.now.ways.now ≡ ways_of env.now built.now.component.now.buildable }
+    requires ways { built.now.ways.now ≡ ways_of env.now built.now.component.now.build.buildable }
     requires known { IsOutlookAt env.now group.now.when outlooks.now group.now.number }
     ensures none_beyond { OnOk result (first_among env.now
         (outward_among built.now.component.now (of_group group.now)) ≡ None) }

@@ -29,7 +29,7 @@ fn is_unbuildable(component: &Component, env: &Env, unset: &List<FlagSet>) -> bo
     requires { unset.now ≡ [] }
     ensures { result ≡ is_unbuildable env.now component.now }
 {
-    match eval(component.buildable.get(), env, unset) {
+    match eval(component.build.buildable(), env, unset) {
         Tri::Yes => false,
         Tri::No => true,
         Tri::Unknown => false,

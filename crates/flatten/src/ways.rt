@@ -2,7 +2,6 @@
 
 ghost use Rattle.std.specs.Prelude.{◌≡◌, IfOk};
 ghost use Rattle.impossible_conditions.specs.Outlook.{IsOutlookAt};
-ghost use Rattle.plan_types.specs.declared.condition.Cond.TheVariants.{Always};
 ghost use Rattle.flatten.specs.Ways.{ways_of};
 
 use conditionals::{MOST_PATHS, paths};
@@ -42,13 +41,4 @@ pub fn ways_of(
     }
     let paths = paths(alloc, cond, env, true)?;
     Ok(Ways { number, paths })
-}
-
-/// The one path of a condition that always holds. It has no settings.
-pub fn one_way(alloc: Global, env: &Env) -> Result<Ways, NoMemory>
-    ensures { IfOk result (λ ways. ways ≡ ways_of env.now Always) }
-{
-    let mut paths = List::with_room(alloc, 1)?;
-    paths.push(List::new(alloc))?;
-    Ok(Ways { number: 1, paths })
 }

@@ -55,7 +55,7 @@ fn put_outward(names: &mut IndexSet<Text>, components: &[Component]) -> Result<(
 fn put_component(names: &mut IndexSet<Text>, component: &Component) -> Result<(), NoMemory>
     ensures { OnOk result (names.new.keys ≡ put_all names.old.keys (map outward_name (outward_in component.now))) }
 {
-    for group in component.deps.groups() {
+    for group in component.build.groups() {
         put_group(names, group)?;
     }
     Ok(())

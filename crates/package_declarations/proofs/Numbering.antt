@@ -133,6 +133,6 @@ targets-inside components n long dep =
 pub needs-graph : (components : List Component) → IsGraph (needs components)
 needs-graph components =
     let n = length (needs components) in
-    let long : length components ≡ n = sym (length-map components (λ c. flat_map (λ guarded. targets components guarded.dep) c.deps)) in
-    All-map (All (λ v. v < n)) (λ (c : Component). flat_map (λ guarded. targets components guarded.dep) c.deps) components
-    (λ k d low. all-flat (λ v. v < n) (λ guarded. targets components guarded.dep) (λ guarded. targets-inside components n long guarded.dep) (get_or components k d).deps)
+    let long : length components ≡ n = sym (length-map components (λ c. flat_map (λ guarded. targets components guarded.dep) c.build.deps)) in
+    All-map (All (λ v. v < n)) (λ (c : Component). flat_map (λ guarded. targets components guarded.dep) c.build.deps) components
+    (λ k d low. all-flat (λ v. v < n) (λ guarded. targets components guarded.dep) (λ guarded. targets-inside components n long guarded.dep) (get_or components k d).build.deps)

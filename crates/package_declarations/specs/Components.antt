@@ -69,8 +69,7 @@ component file section kind = record {
   kind = kind;
   name = section.name;
   public = is_named_library kind section.name && is_public section.parts;
-  buildable = buildable section.parts;
-  deps = flat_map (guarded file) section.parts;
+  build = record { buildable = buildable section.parts; deps = flat_map (guarded file) section.parts };
 }
 
 -- the component of a section, if it is one

@@ -21,4 +21,4 @@ targets components dep = if dep.internal then elim dep.kind [
 
 -- for each component the numbers of those that it needs, under any condition
 abbrev pub needs : List Component → List (List ℕ)
-needs components = map (λ c. flat_map (λ guarded. targets components guarded.dep) c.deps) components
+needs components = map (λ c. flat_map (λ guarded. targets components guarded.dep) c.build.deps) components

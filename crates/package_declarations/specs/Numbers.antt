@@ -32,4 +32,4 @@ targets_by numbers dep = if dep.internal then elim dep.kind [
 
 -- the components that a component needs, by a table of numbers
 abbrev pub needs_by : (List ℕ → List ℕ) → Component → List ℕ
-needs_by numbers component = flat_map (λ guarded. targets_by numbers guarded.dep) component.deps
+needs_by numbers component = flat_map (λ guarded. targets_by numbers guarded.dep) component.build.deps

@@ -49,14 +49,13 @@ fn component<'a>(
     let name = built.section.name.copy()?;
     let public = built.is_named_library() && is_public(placed.as_slice());
     let gathered = gathered(alloc, declared, placed.as_slice())?;
-    let (buildable, deps) = gathered.into_parts(alloc)?;
+    let build = gathered.into_build(alloc)?;
     Ok(Component {
         line: built.section.line,
         kind: built.kind,
         name,
         public,
-        buildable,
-        deps,
+        build,
     })
 }
 

@@ -83,7 +83,7 @@ impl<'a> Numbers<'a> {
         ensures { IfOk result (λ found. found ≡ needs_by (number_at self.now) component.now) }
     {
         let mut found = List::new(alloc);
-        for group in component.deps.groups() {
+        for group in component.build.groups() {
             self.push_group(group, &mut found)?;
         }
         Ok(found)

@@ -18,7 +18,7 @@ ghost use Rattle.stanza_imports.specs.Parts.{deps_said};
 use crate::branches::{Level, added, conjunction, enter, leave, number_at};
 use crate::declarations::Declared;
 use plan_types::{
-    Cond, Conditions, Dep, DepGroup, Guard, GuardedDeps, List, NoMemory, Row, Shared, TabledCond,
+    BuildInfo, Cond, Conditions, Dep, DepGroup, Guard, List, NoMemory, Row, Shared,
 };
 use section_syntax::Said;
 use stanza_imports::Placed;
@@ -114,12 +114,12 @@ impl Gathered {
     }
 
     /// The condition of being buildable, and all dependencies.
-    pub fn into_parts(self, alloc: Global) -> Result<(TabledCond, GuardedDeps), NoMemory>
+    pub fn into_build(self, alloc: Global) -> Result<BuildInfo, NoMemory>
         requires { (opened : List Branch) × (barred : List Cond) × RepresentsState self opened barred }
-        ensures buildable { IfOk result (λ parts. (opened : List Branch) (barred : List Cond)
+        ensures buildable { IfOk result (λ build. (opened : List Branch) (barred : List Cond)
             → RepresentsState self opened barred
-            → parts.0 ≡ all_of barred) }
-        ensures deps { IfOk result (λ parts. parts.1 ≡ deps_in self.groups) }
+            → build.buildable ≡ all_of barred) }
+        ensures deps { IfOk result (λ build. build.deps ≡ deps_in self.groups) }
     {
         let Gathered {
             conds,
@@ -132,10 +132,8 @@ impl Gathered {
             Some(number) => number,
             None => 0,
         };
-        let cond = conds.guard(alloc, free)?;
-        let conds = Shared::new(alloc, conds)?;
-        let buildable = TabledCond::new(cond, free, conds.copy()?);
-        Ok((buildable, GuardedDeps::new(conds, groups)))
+        let buildable = conds.guard(alloc, free)?;
+        Ok(BuildInfo::new(conds, buildable, free, groups))
     }
 }
 

@@ -46,20 +46,20 @@ pub goes-down : (whole front last : Cond) → whole ≡ And front last → size-
 goes-down whole front last is = let size = ap size-Cond is ∙ sized-And front last in omega (arith, size)
 
 whole-holds : (env : Env) (flags : List FlagSet) (component : Component) (guarded : GuardedDep)
-    → condition_holds env flags (whole_condition component guarded) ≡ (condition_holds env flags component.buildable && condition_holds env flags guarded.when)
+    → condition_holds env flags (whole_condition component guarded) ≡ (condition_holds env flags component.build.buildable && condition_holds env flags guarded.when)
 whole-holds env flags component guarded =
-    ap (is_wanted true) (value-And env (flag_in flags) component.buildable guarded.when)
-    ∙ both-yes (value env (flag_in flags) component.buildable) (value env (flag_in flags) guarded.when)
+    ap (is_wanted true) (value-And env (flag_in flags) component.build.buildable guarded.when)
+    ∙ both-yes (value env (flag_in flags) component.build.buildable) (value env (flag_in flags) guarded.when)
 
 module _ (selection : Selection) (flags : List FlagSet) (own : Bool) (component : Component) where
   -- if the component is buildable, the branches decide
-  pub by_branches : (guarded : GuardedDep) → condition_holds selection.env flags component.buildable ≡ true
+  pub by_branches : (guarded : GuardedDep) → condition_holds selection.env flags component.build.buildable ≡ true
       → counts selection flags own component guarded ≡ ((own || not guarded.dep.internal) && condition_holds selection.env flags guarded.when)
   by_branches guarded h =
       ap (λ b. (own || not guarded.dep.internal) && b) (whole-holds selection.env flags component guarded ∙ ap (λ b. b && condition_holds selection.env flags guarded.when) h)
 
   -- the dependencies of one group, if its branches are taken, and if they aren't
-  module _ (built : condition_holds selection.env flags component.buildable ≡ true) (when : Cond) (node : Node) where
+  module _ (built : condition_holds selection.env flags component.build.buildable ≡ true) (when : Cond) (node : Node) where
     abbrev here : Dep → GuardedDep
     here dep = record { when = when; dep = dep }
 
@@ -94,11 +94,11 @@ module _ (selection : Selection) (flags : List FlagSet) (own : Bool) (component 
       ∙ flat_map-append (λ (g : GuardedDep). dep_needs selection node g.dep) (filter (counts selection flags own component) front) (filter (counts selection flags own component) rest)
 
   -- if the component isn't buildable, no dependency counts
-  none-counts : (guarded : GuardedDep) → condition_holds selection.env flags component.buildable ≡ false → counts selection flags own component guarded ≡ false
+  none-counts : (guarded : GuardedDep) → condition_holds selection.env flags component.build.buildable ≡ false → counts selection flags own component guarded ≡ false
   none-counts guarded h =
       and_right (own || not guarded.dep.internal) _ (whole-holds selection.env flags component guarded ∙ ap (λ b. b && condition_holds selection.env flags guarded.when) h)
 
-  pub no_needs : (node : Node) → condition_holds selection.env flags component.buildable ≡ false → component_needs selection node flags own component ≡ []
+  pub no_needs : (node : Node) → condition_holds selection.env flags component.build.buildable ≡ false → component_needs selection node flags own component ≡ []
   no_needs node h =
       ap (flat_map (λ (g : GuardedDep). dep_needs selection node g.dep))
-      (filter-nothing (counts selection flags own component) component.deps (λ g inside. none-counts g h))
+      (filter-nothing (counts selection flags own component) component.build.deps (λ g inside. none-counts g h))

@@ -74,7 +74,7 @@ needs_among selection node flags own component deps =
 
 -- the needs of a component
 abbrev pub component_needs : Selection → Node → List FlagSet → Bool → Component → List Need
-component_needs selection node flags own component = needs_among selection node flags own component component.deps
+component_needs selection node flags own component = needs_among selection node flags own component component.build.deps
 
 -- the needs of the wanted components of a package that is built as a whole
 abbrev pub wanted_needs : Selection → Node → List FlagSet → List Component → List Need

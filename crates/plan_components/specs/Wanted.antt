@@ -54,7 +54,7 @@ is_asked selection q p Foreign = true
 
 -- whether a component is asked for, and buildable under the chosen flags
 abbrev pub is_wanted_under : Selection → Qual → ℕ → List FlagSet → Component → Bool
-is_wanted_under selection q p flags component = is_asked selection q p component.kind && condition_holds selection.env flags component.buildable
+is_wanted_under selection q p flags component = is_asked selection q p component.kind && condition_holds selection.env flags component.build.buildable
 
 -- the first list, or the second if that is empty
 abbrev pub or_else : List ℕ → List ℕ → List ℕ

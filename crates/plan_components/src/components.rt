@@ -18,7 +18,7 @@ impl Owner<'_> {
         ensures { result ≡ wanted_of (selection_of chosen.now) self.now component.now }
     {
         is_asked(chosen, self.node, component.kind)
-            && chosen.condition_holds(&self.known.flags, component.buildable.get())
+            && chosen.condition_holds(&self.known.flags, component.build.buildable())
     }
 }
 

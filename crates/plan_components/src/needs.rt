@@ -223,7 +223,7 @@ fn push_component(
         ++ component_needs (selection_of chosen.now) owner.now.node owner.now.known.now.flags dependent.now.own
         dependent.now.component.now) }
 {
-    if chosen.condition_holds(&owner.known.flags, dependent.component.buildable.get()) {
+    if chosen.condition_holds(&owner.known.flags, dependent.component.build.buildable()) {
         push_deps(alloc, needs, chosen, owner, dependent)?;
     }
     Ok(())
@@ -238,12 +238,12 @@ fn push_deps(
 ) -> Result<(), NoMemory>
     requires known { IsKnown (selection_of chosen.now) owner.now.known.now }
     requires built { condition_holds chosen.now.env.now owner.now.known.now.flags
-        dependent.now.component.now.buildable ≡ true }
+        dependent.now.component.now.build.buildable ≡ true }
     ensures { OnOk result (needs.new ≡ needs.old
         ++ component_needs (selection_of chosen.now) owner.now.node owner.now.known.now.flags dependent.now.own
         dependent.now.component.now) }
 {
-    for group in dependent.component.deps.groups() {
+    for group in dependent.component.build.groups() {
         push_group(alloc, needs, chosen, owner, dependent, group)?;
     }
     Ok(())
@@ -260,7 +260,7 @@ fn push_group(
 ) -> Result<(), NoMemory>
     requires known { IsKnown (selection_of chosen.now) owner.now.known.now }
     requires built { condition_holds chosen.now.env.now owner.now.known.now.flags
-        dependent.now.component.now.buildable ≡ true }
+        dependent.now.component.now.build.buildable ≡ true }
     ensures { OnOk result (needs.new ≡ needs.old
         ++ needs_among (selection_of chosen.now) owner.now.node owner.now.known.now.flags dependent.now.own
         dependent.now.component.now (of_group group.now)) }

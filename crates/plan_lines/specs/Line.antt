@@ -31,7 +31,7 @@ source_kind selection node = if is_top node.qual && (package_at selection.packag
 -- whether a component is unbuildable under these flags; false if there is none
 abbrev pub is_unbuildable_one : Env → List FlagSet → Option Component → Bool
 is_unbuildable_one env flags None = false
-is_unbuildable_one env flags (Some component) = not (condition_holds env flags component.buildable)
+is_unbuildable_one env flags (Some component) = not (condition_holds env flags component.build.buildable)
 
 -- A package that is built as a whole is never unbuildable: it builds the components that it can.
 abbrev pub is_unbuildable : Env → List FlagSet → List Component → Piece → Bool

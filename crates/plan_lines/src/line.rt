@@ -112,7 +112,7 @@ fn is_open_one(component: Option<&Component>) -> bool
 {
     match component {
         None => true,
-        Some(component) => is_always(component.buildable.get()),
+        Some(component) => is_always(component.build.buildable()),
     }
 }
 
@@ -209,6 +209,6 @@ fn is_unbuildable_one(
 {
     match component {
         None => false,
-        Some(component) => !chosen.condition_holds(flags, component.buildable.get()),
+        Some(component) => !chosen.condition_holds(flags, component.build.buildable()),
     }
 }

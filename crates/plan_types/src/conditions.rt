@@ -1,8 +1,8 @@
 // Tables of conditions that share subconditions.
-ghost use Rattle.std.specs.Prelude.{◌≡◌, ◌++◌, [], ◌∷◌, Some, length, slice_get, IfOk, OnErr, OnOk};
+ghost use Rattle.std.specs.Prelude.{◌≡◌, ◌++◌, [], ◌∷◌, length, IfOk, OnErr, OnOk};
 ghost use Rattle.plan_types.specs.Conditions.{cond_of, conds_of, numbered};
 
-use crate::{Cond, Guard, List, NoMemory, Shared};
+use crate::{Cond, Guard, List, NoMemory};
 use std::alloc::Global;
 use std::marker::Model;
 
@@ -100,66 +100,5 @@ impl Conditions {
         ensures { conds_of result.now ≡ self.now }
     {
         self.rows.as_slice()
-    }
-}
-
-/// A condition and its place in a table, which a contract sees as the condition itself.
-#[derive(Debug, Drop)]
-pub struct TabledCond {
-    cond: Guard,
-    number: usize,
-    conds: Shared<Conditions>,
-}
-
-impl Model for TabledCond {
-    ghost use Rattle.std.specs.Prelude.{◌≡◌, Some, slice_get};
-    ghost use Rattle.std.specs.Coded.{codes};
-    ghost use Rattle.plan_types.specs.contracts.condition.Cond as conditions;
-    ghost use Rattle.plan_types.specs.declared.condition.Cond.{Cond};
-
-    ghost Value = { Cond };
-
-    ghost coded = { Prim.hlevel (codes, conditions.the_row.coded) };
-
-    ghost view = { λ t. t.cond };
-
-    ghost invariant = { λ t. slice_get t.conds t.number ≡ Some t.cond };
-}
-
-impl TabledCond {
-    /// A condition with its number in a table.
-    pub fn new(cond: Guard, number: usize, conds: Shared<Conditions>) -> TabledCond
-        requires { slice_get conds number ≡ Some cond }
-        ensures { result ≡ cond }
-    {
-        TabledCond {
-            cond,
-            number,
-            conds,
-        }
-    }
-
-    /// A condition in a table of its own.
-    pub fn alone(alloc: Global, cond: Guard) -> Result<TabledCond, NoMemory>
-        ensures { IfOk result (λ alone. alone ≡ cond) }
-    {
-        let mut conds = Conditions::new(alloc);
-        let number = conds.push(alloc, Row::Own(cond.copy()?))?;
-        let conds = Shared::new(alloc, conds)?;
-        Ok(TabledCond::new(cond, number, conds))
-    }
-
-    /// The condition itself.
-    pub fn get(&self) -> &Cond
-        ensures { result.now ≡ self.now }
-    {
-        self.cond.get()
-    }
-
-    /// The table, and the condition's number in it.
-    pub fn place(&self) -> (&Conditions, usize)
-        ensures { slice_get result.0.now result.1 ≡ Some self.now }
-    {
-        (self.conds.get(), self.number)
     }
 }

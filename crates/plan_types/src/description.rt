@@ -1,8 +1,8 @@
 // The description of a package, from its `.cabal` file.
-ghost use Rattle.std.specs.Prelude.{◌≡◌, All};
-ghost use Rattle.plan_types.specs.Guarded.{AreTabled, in_groups};
+ghost use Rattle.std.specs.Prelude.{◌≡◌, All, Some, slice_get};
+ghost use Rattle.plan_types.specs.Guarded.{AreTabled, build, in_groups};
 
-use crate::{Conditions, Dep, Guard, List, Shared, Spec, TabledCond, Text, Version};
+use crate::{Cond, Conditions, Dep, Guard, List, Shared, Spec, Text, Version};
 use std::marker::Model;
 
 /// The kind of a component.
@@ -24,52 +24,74 @@ pub struct DepGroup {
     pub deps: List<Shared<Dep>>,
 }
 
-/// Dependencies in file order, each under a condition. A contract sees them one by one. Neighbours under the same
-/// branches form a group. The conditions of the groups are in a table.
+/// The condition under which a component is buildable, and its dependencies in file order. Neighbours under the same
+/// branches form a group. One table has all of their conditions. A contract sees the dependencies one by one.
 #[derive(Debug, Drop)]
-pub struct GuardedDeps {
-    conds: Shared<Conditions>,
+pub struct BuildInfo {
+    conds: Conditions,
+    buildable: Guard,
+    /// The number of `buildable` in the table.
+    place: usize,
     groups: List<DepGroup>,
 }
 
-impl Model for GuardedDeps {
-    ghost use Rattle.std.specs.Prelude.{List};
+impl Model for BuildInfo {
+    ghost use Rattle.std.specs.Prelude.{◌≡◌, List, Some, slice_get};
     ghost use Rattle.std.specs.Coded.{codes};
     ghost use Rattle.plan_types.specs.contracts.condition.Cond as conditions;
     ghost use Rattle.plan_types.specs.contracts.range.Range as ranges;
-    ghost use Rattle.plan_types.specs.Guarded.{AreTabled, GuardedDep, in_groups};
+    ghost use Rattle.plan_types.specs.Guarded.{AreTabled, Build, build};
 
-    ghost Value = { List GuardedDep };
+    ghost Value = { Build };
 
     ghost coded = { Prim.hlevel (codes, conditions.the_row.coded, ranges.the_row.coded) };
 
-    ghost view = { λ d. in_groups d.groups };
+    ghost view = { λ info. build info.buildable info.groups };
 
-    ghost invariant = { λ d. AreTabled d.conds d.groups };
+    ghost invariant = { λ info. (slice_get info.conds info.place ≡ Some info.buildable) × AreTabled info.conds info.groups };
 }
 
-impl GuardedDeps {
-    /// Groups whose conditions are in a table.
-    pub fn new(conds: Shared<Conditions>, groups: List<DepGroup>) -> GuardedDeps
-        requires { AreTabled conds groups }
-        ensures { result ≡ in_groups groups }
+impl BuildInfo {
+    /// A condition and groups whose conditions are in a table, with the condition's number there.
+    pub fn new(
+        conds: Conditions,
+        buildable: Guard,
+        place: usize,
+        groups: List<DepGroup>,
+    ) -> BuildInfo
+        requires buildable { slice_get conds place ≡ Some buildable }
+        requires groups { AreTabled conds groups }
+        ensures { result ≡ build buildable groups }
     {
-        GuardedDeps { conds, groups }
+        BuildInfo {
+            conds,
+            buildable,
+            place,
+            groups,
+        }
+    }
+
+    /// The condition under which the component is buildable.
+    pub fn buildable(&self) -> &Cond
+        ensures { result.now ≡ self.now.buildable }
+    {
+        self.buildable.get()
     }
 
     /// The dependencies, by groups.
     pub fn groups(&self) -> &[DepGroup]
-        ensures { in_groups result.now ≡ self.now }
+        ensures { in_groups result.now ≡ self.now.deps }
     {
         self.groups.as_slice()
     }
 
-    /// The table of conditions, and the groups.
-    pub fn tabled(&self) -> (&Conditions, &[DepGroup])
-        ensures groups { in_groups result.1.now ≡ self.now }
-        ensures tabled { AreTabled result.0.now result.1.now }
+    /// The table of conditions, the number of `buildable` there, and the groups.
+    pub fn tabled(&self) -> (&Conditions, usize, &[DepGroup])
+        ensures buildable { slice_get result.0.now result.1 ≡ Some self.now.buildable }
+        ensures groups { in_groups result.2.now ≡ self.now.deps }
+        ensures tabled { AreTabled result.0.now result.2.now }
     {
-        (self.conds.get(), self.groups.as_slice())
+        (&self.conds, self.place, self.groups.as_slice())
     }
 }
 
@@ -83,9 +105,8 @@ pub struct Component {
     pub name: Text,
     /// Whether it is a named library that other packages may use.
     pub public: bool,
-    pub buildable: TabledCond,
-    /// In file order, imported ones first.
-    pub deps: GuardedDeps,
+    /// Imported dependencies come first.
+    pub build: BuildInfo,
 }
 
 // Explicit, so that it is proved once: a derived one is expanded at each exit.
@@ -96,8 +117,7 @@ impl Drop for Component {
             kind: _kind,
             name: _name,
             public: _public,
-            buildable: _buildable,
-            deps: _deps,
+            build: _build,
         } = self;
     }
 }

@@ -19,10 +19,10 @@ mod refusal;
 mod version;
 
 pub use condition::{Cond, Env, FlagSet};
-pub use conditions::{Conditions, Row, TabledCond};
+pub use conditions::{Conditions, Row};
 pub use constraint::{Constraint, Scope, What};
 pub use dependency::{Dep, DepKind, LibName, Named, Relax, RelaxOwner};
-pub use description::{CompKind, Component, DepGroup, Description, FlagDecl, GuardedDeps};
+pub use description::{BuildInfo, CompKind, Component, DepGroup, Description, FlagDecl};
 pub use element::{Element, joined_text};
 pub use fallible_values::{Boxed, List, NoMemory, Shared, Text};
 pub use guard::Guard;

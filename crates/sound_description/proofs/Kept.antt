@@ -91,7 +91,7 @@ module _ (known : List ℕ → Bool) (name : List ℕ) (others : List Component)
 
   -- a component with well-formed conditions and kept dependencies
   abbrev pub is_component_well : Component → Bool
-  is_component_well component = is_well_formed known component.buildable && list_all is_guarded_well component.deps
+  is_component_well component = is_well_formed known component.build.buildable && list_all is_guarded_well component.build.deps
 
   module _ (file : File) (kept : (dep : Dep) → is_stated file dep ≡ true → is_kept name others (meant file dep) ≡ true) where
     abbrev is_part : SectionPart → Bool

@@ -96,9 +96,9 @@ module _ (components : List Component) (once : IsDistinct same_text (map (λ d. 
 
     edge : (from : Component) (i : ℕ) → IsAt components from i → needs from other ≡ true → Needs (numbers.needs components) i k
     edge from i there e =
-        let of = λ (c : Component). flat_map (λ (guarded : GuardedDep). targets components guarded.dep) c.deps in
+        let of = λ (c : Component). flat_map (λ (guarded : GuardedDep). targets components guarded.dep) c.build.deps in
         subst (λ ys. Contains ys k) (sym (get_or-map of components i from [] there.0 ∙ ap of there.1))
-        (any-contains (λ (guarded : GuardedDep). guarded.dep.internal && asks_for guarded.dep.kind guarded.dep other) (λ guarded. targets components guarded.dep) k (λ guarded h. one-dep guarded.dep h) from.deps e)
+        (any-contains (λ (guarded : GuardedDep). guarded.dep.internal && asks_for guarded.dep.kind guarded.dep other) (λ guarded. targets components guarded.dep) k (λ guarded h. one-dep guarded.dep h) from.build.deps e)
 
   path : (from to : Component) → Leads components from to → (i j : ℕ) → IsAt components from i → IsAt components to j → IsPath (Needs (numbers.needs components)) i j
   path a b (at_once from to there e) i j p q = last (edge to j q from i p e)

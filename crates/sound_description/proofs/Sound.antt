@@ -82,12 +82,12 @@ module _ (spec : Spec) (file : File) (digest name : List ℕ) (version : Version
       components-well (declares_flag whole) name all_components file kept (with_imports_replaced file.sections)
       (replaced-well spec file (declares_flag whole) (flag_found file.sections flags flags_are) read faultless)
 
-  deps-of : (c : Component) → is_well c ≡ true → list_all is_guarded c.deps ≡ true
-  deps-of c e = (and_parts (is_well_formed (declares_flag whole) c.buildable) (list_all is_guarded c.deps) e).1
+  deps-of : (c : Component) → is_well c ≡ true → list_all is_guarded c.build.deps ≡ true
+  deps-of c e = (and_parts (is_well_formed (declares_flag whole) c.build.buildable) (list_all is_guarded c.build.deps) e).1
 
   deps-kept : list_all (is_kept name all_components) (component_deps whole) ≡ true
-  deps-kept = all-flat is_well (is_kept name all_components) (λ component. map (λ guarded. guarded.dep) component.deps)
-      (λ c e. all-map is_guarded (is_kept name all_components) (λ guarded. guarded.dep) (λ g h. (and_parts (is_well_formed (declares_flag whole) g.when) (is_kept name all_components g.dep) h).1) c.deps (deps-of c e))
+  deps-kept = all-flat is_well (is_kept name all_components) (λ component. map (λ guarded. guarded.dep) component.build.deps)
+      (λ c e. all-map is_guarded (is_kept name all_components) (λ guarded. guarded.dep) (λ g h. (and_parts (is_well_formed (declares_flag whole) g.when) (is_kept name all_components g.dep) h).1) c.build.deps (deps-of c e))
       all_components all-well
 
   abbrev is_found : Dep → Bool
@@ -108,9 +108,9 @@ module _ (spec : Spec) (file : File) (digest name : List ℕ) (version : Version
   conditions-well : list_all (is_well_formed (declares_flag whole)) (conditions whole) ≡ true
   conditions-well =
       let asks = is_well_formed (declares_flag whole) in
-      all-flat is_well asks (λ component. component.buildable ∷ map (λ guarded. guarded.when) component.deps)
-      (λ c e. and_from (asks c.buildable) (list_all asks (map (λ (guarded : GuardedDep). guarded.when) c.deps)) (and_parts (asks c.buildable) (list_all is_guarded c.deps) e).0
-      (all-map is_guarded asks (λ guarded. guarded.when) (λ g h. (and_parts (asks g.when) (is_kept name all_components g.dep) h).0) c.deps (deps-of c e)))
+      all-flat is_well asks (λ component. component.build.buildable ∷ map (λ guarded. guarded.when) component.build.deps)
+      (λ c e. and_from (asks c.build.buildable) (list_all asks (map (λ (guarded : GuardedDep). guarded.when) c.build.deps)) (and_parts (asks c.build.buildable) (list_all is_guarded c.build.deps) e).0
+      (all-map is_guarded asks (λ guarded. guarded.when) (λ g h. (and_parts (asks g.when) (is_kept name all_components g.dep) h).0) c.build.deps (deps-of c e)))
       all_components all-well
 
   pub sound : repeated_from OfFlag [] file.sections ≡ [] → IsFirstOnCycle (needs all_components) None → IsDescription whole
@@ -138,9 +138,9 @@ module _ (spec : Spec) (file : File) (digest name : List ℕ) (version : Version
       all-append is_package_name (map (λ at. at.guarded.dep.«package») (outward whole)) (map (λ dep. dep.«package») (setup file))
       (all-map of_at is_package_name (λ at. at.guarded.dep.«package») (λ at e. e) (outward whole)
       (all-flat is_well of_at outward_in
-      (λ c e. all-map of_guarded of_at (outward_of c) (λ g h. h) (external c.deps)
-      (all-filter of_guarded (λ guarded. not guarded.dep.internal) c.deps
-      (all-less is_guarded of_guarded (λ g h. (kept-parts g.dep (and_parts (is_well_formed (declares_flag whole) g.when) (is_kept name all_components g.dep) h).1).1) c.deps (deps-of c e))))
+      (λ c e. all-map of_guarded of_at (outward_of c) (λ g h. h) (external c.build.deps)
+      (all-filter of_guarded (λ guarded. not guarded.dep.internal) c.build.deps
+      (all-less is_guarded of_guarded (λ g h. (kept-parts g.dep (and_parts (is_well_formed (declares_flag whole) g.when) (is_kept name all_components g.dep) h).1).1) c.build.deps (deps-of c e))))
       all_components all-well))
       (all-map (is_read is_of_setup) is_package_name (λ dep. dep.«package») (λ dep e. (setup-parts dep e).2) (setup file) setup-is)
 

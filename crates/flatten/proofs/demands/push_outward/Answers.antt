@@ -13,18 +13,27 @@ use Rattle.plan_types.proofs.OutcomeLemmas.{refused-as}
 use Rattle.flatten.proofs.DependencyGroups.{outward-append}
 use Rattle.flatten.proofs.demands.push_outward.Goals as goal
 
+pub ways_of-requires : goal.ways_of-requires
+ways_of-requires c =
+    let env = c.args.env.now in
+    let cond = c.buildable.result.now in
+    let place = c.tabled-place.result.1 in
+    let there = c.tabled-place.ensures.buildable ∙ ap Some (sym c.buildable.ensures) in
+    let known = outlook-at env c.tabled-place.result.0.now c.in_ok-outlooks.outlooks.items place cond c.in_ok-outlooks.ensures there in
+    subst (λ items. IsOutlookAt env cond items place) (sym c.deref.ensures.value) known
+
 pub push_group-requires-clause-known : goal.push_group-requires-clause-known
 push_group-requires-clause-known c =
     let group = c.group-item.result in
-    let there = subst (λ asked. slice_get c.tabled.result.0.now asked.number ≡ Some asked.when) (sym c.group-item.is) (c.tabled.ensures.tabled c.loop-group.group-index group c.loop-group-test.true) in
-    let known = outlook-at c.args.env.now c.tabled.result.0.now c.in_ok-outlooks.outlooks.items group.number group.when c.in_ok-outlooks.ensures there in
+    let there = subst (λ asked. slice_get c.tabled-place.result.0.now asked.number ≡ Some asked.when) (sym c.group-item.is) (c.tabled-place.ensures.tabled c.loop-group.group-index group c.loop-group-test.true) in
+    let known = outlook-at c.args.env.now c.tabled-place.result.0.now c.in_ok-outlooks.outlooks.items group.number group.when c.in_ok-outlooks.ensures there in
     subst (λ items. IsOutlookAt c.args.env.now group.when items group.number) (sym c.deref.ensures.value) known
 
 pub loop-group-preserved : goal.loop-group-preserved
 loop-group-preserved c =
     let env = c.args.env.now in
-    let component = c.args.built.now.component.now in
-    let items = c.tabled.result.1.now in
+    let component = c.args.component.now in
+    let items = c.tabled-place.result.2.now in
     let group = c.group-item.result in
     let own = outward_among component (of_group group) in
     let more = outward_among component (in_groups (drop (c.loop-group.group-index + 1) items)) in
@@ -43,8 +52,8 @@ loop-group-preserved c =
 pub returns-in_err-push_group-clause-refused : goal.returns-in_err-push_group-clause-refused
 returns-in_err-push_group-clause-refused c =
     let env = c.args.env.now in
-    let component = c.args.built.now.component.now in
-    let items = c.tabled.result.1.now in
+    let component = c.args.component.now in
+    let items = c.tabled-place.result.2.now in
     let group = c.group-item.result in
     let more = in_groups (drop (c.loop-group.group-index + 1) items) in
     let split = ap (λ l. outward_among component (in_groups l)) (drop_at items c.loop-group.group-index group c.loop-group-test.true c.group-item.is)

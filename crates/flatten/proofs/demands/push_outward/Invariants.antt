@@ -5,8 +5,8 @@ use Rattle.flatten.proofs.demands.push_outward.Given as goal
 
 abbrev pub invariant-loop-group : goal.invariant-loop-group
 invariant-loop-group l =
-    let rest = outward_among l.built.component.now (in_groups (drop l.group-index l.groups)) in
+    let rest = outward_among l.component (in_groups (drop l.group-index l.groups)) in
     record {
-      demands : l.flat ++ flat_map (demands_at l.env) rest ≡ l.fn.flat ++ flat_map (demands_at l.env) (outward_in l.built.component.now);
-      first : first_among l.env rest ≡ first_among l.env (outward_in l.built.component.now);
+      demands : l.flat ++ flat_map (demands_at l.env) rest ≡ l.fn.flat ++ flat_map (demands_at l.env) (outward_in l.component);
+      first : first_among l.env rest ≡ first_among l.env (outward_in l.component);
     }

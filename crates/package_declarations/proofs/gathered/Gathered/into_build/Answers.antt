@@ -6,8 +6,8 @@ use Rattle.plan_types.specs.declared.condition.Cond.TheVariants.{Always}
 use Rattle.section_syntax.specs.Branch.{all_of}
 use Rattle.package_declarations.specs.Gathering.{joined_some}
 use Rattle.package_declarations.specs.Levels.{IsNumbered}
-use Rattle.package_declarations.proofs.gathered.Gathered.into_parts.Goals as goal
-use Rattle.package_declarations.proofs.gathered.Gathered.into_parts.Goals.{in-Some, in-None}
+use Rattle.package_declarations.proofs.gathered.Gathered.into_build.Goals as goal
+use Rattle.package_declarations.proofs.gathered.Gathered.into_build.Goals.{in-Some, in-None}
 
 barred-by : (conds : List Cond) (free : ℕ) (barred : List Cond) → IsNumbered conds (Some free) (joined_some barred) → numbered conds free ≡ all_of barred
 barred-by conds free [] is = absurd is
@@ -24,4 +24,4 @@ returns-clause-buildable c opened barred stands =
       | in-Some w ↦ ap (numbered conds) w.free-is ∙ barred-by conds _ barred (subst (λ n. IsNumbered conds n (joined_some barred)) w.in-Some.is stands.free)
       | in-None w ↦ ap (numbered conds) w.free-is ∙ barred-by-none conds barred stands.root (subst (λ n. IsNumbered conds n (joined_some barred)) w.in-None.is stands.free)
     ] in
-    c.new-buildable.ensures ∙ c.cond.view_is ∙ c.in_ok-cond.ensures ∙ free
+    ap (λ build. build.buildable) c.new.ensures ∙ c.in_ok-buildable.ensures ∙ free
