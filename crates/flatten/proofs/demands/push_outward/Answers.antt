@@ -27,7 +27,7 @@ push_group-requires-clause-known c =
     let group = c.group-item.result in
     let there = subst (λ asked. slice_get c.tabled-place.result.0.now asked.number ≡ Some asked.when) (sym c.group-item.is) (c.tabled-place.ensures.tabled c.loop-group.group-index group c.loop-group-test.true) in
     let known = outlook-at c.args.env.now c.tabled-place.result.0.now c.in_ok-outlooks.outlooks.items group.number group.when c.in_ok-outlooks.ensures there in
-    subst (λ items. IsOutlookAt c.args.env.now group.when items group.number) (sym c.deref.ensures.value) known
+    subst (λ items. IsOutlookAt c.args.env.now group.when items group.number) (sym c.deref-in-loop-group.ensures.value) known
 
 pub loop-group-preserved : goal.loop-group-preserved
 loop-group-preserved c =
