@@ -17,9 +17,7 @@ ghost use Rattle.stanza_imports.specs.Parts.{deps_said};
 
 use crate::branches::{Level, added, conjunction, enter, leave, number_at};
 use crate::declarations::Declared;
-use plan_types::{
-    BuildInfo, Cond, Conditions, Dep, DepGroup, Guard, List, NoMemory, Row, Shared,
-};
+use plan_types::{BuildInfo, Cond, Conditions, Dep, DepGroup, Guard, List, NoMemory, Row, Shared};
 use section_syntax::Said;
 use stanza_imports::Placed;
 use std::alloc::Global;

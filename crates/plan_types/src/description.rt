@@ -48,7 +48,8 @@ impl Model for BuildInfo {
 
     ghost view = { λ info. build info.buildable info.groups };
 
-    ghost invariant = { λ info. (slice_get info.conds info.place ≡ Some info.buildable) × AreTabled info.conds info.groups };
+    ghost invariant = { λ info. (slice_get info.conds info.place ≡ Some info.buildable)
+        × AreTabled info.conds info.groups };
 }
 
 impl BuildInfo {
