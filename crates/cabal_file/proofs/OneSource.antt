@@ -10,7 +10,7 @@ use Rattle.cabal_lexer.specs.Fault.{IsTree, IsFault}
 use Rattle.description.specs.Description.{Describes}
 use Rattle.description.specs.FaultOrder.{is_at}
 use Rattle.description.specs.declared.fault_order.At.{At}
-use Rattle.cabal_file.specs.declared.source.Source.{Source}
+use Rattle.plan_types.specs.declared.index.Source.{Source}
 use Rattle.cabal_file.specs.Source.{IsSource, OfDescription, OfTree, digest_of}
 
 of-one : (env : Env) (x : Result Description At) (a b : Result Source At) → OfDescription env x a → OfDescription env x b → a ≡ b

@@ -15,7 +15,7 @@ use Rattle.description.specs.FaultOrder.{is_at}
 use Rattle.description.specs.declared.fault_order.At.{At}
 use Rattle.flatten.specs.Demands.{demands_of, first_with_too_many_paths}
 use Rattle.flatten.specs.Exposure.{exposed}
-use Rattle.cabal_file.specs.declared.source.Source.{Source}
+use Rattle.plan_types.specs.declared.index.Source.{Source}
 
 -- the SHA-256 of a file, in lower-case digits
 abbrev pub digest_of : List ℕ → List ℕ

@@ -4,7 +4,7 @@ ghost use Rattle.std.specs.Prelude.{◌≡◌, List, ℕ};
 ghost use Rattle.std.specs.declared.result.Result.{Result};
 ghost use Rattle.plan_types.specs.declared.condition.Env.{Env};
 ghost use Rattle.description.specs.declared.fault_order.At.{At};
-ghost use Rattle.cabal_file.specs.declared.source.Source.{Source};
+ghost use Rattle.plan_types.specs.declared.index.Source.{Source};
 ghost use Rattle.cabal_file.specs.Source.{IsSource};
 
 use cabal_lexer::{one_fault, one_tree, tree_or_fault};

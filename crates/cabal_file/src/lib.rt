@@ -7,4 +7,4 @@ mod laws;
 mod source;
 
 pub use laws::one_source;
-pub use source::{Source, read_source};
+pub use source::read_source;

@@ -2,7 +2,6 @@
 
 ghost use Rattle.std.specs.Prelude.{◌≡◌, ◌≤◌, length, IfOk, IfErr};
 ghost use Rattle.std.specs.declared.result.Result.TheVariants.{Ok, Err};
-ghost use Rattle.plan_types.specs.declared.index.Body.TheVariants as body;
 ghost use Rattle.plan_types.specs.Refusal.{RefusesAt};
 ghost use Rattle.description.specs.Description.{Describes};
 ghost use Rattle.description.specs.FaultOrder.{IsOnly, is_at};
@@ -12,46 +11,9 @@ use crate::laws::one_source;
 use cabal_lexer::read_elements;
 use description::read_description;
 use flatten::{demands_of, exposed};
-use plan_types::{Body, Description, Element, Env, Exposed, Fault, FlatDep, List, NoMemory, Text};
+use plan_types::{Description, Element, Env, Fault, List, NoMemory, Source, Text};
 use sha2::{Digest, Sha256};
 use std::alloc::Global;
-
-/// The description of a package, its demands on other packages, and its exposed components.
-#[derive(Debug)]
-pub struct Source {
-    pub description: Description,
-    pub flat: List<FlatDep>,
-    pub exposed: Exposed,
-}
-
-// Explicit, so that it is proved once: a derived one is expanded at each exit.
-impl Drop for Source {
-    fn drop(self) {
-        let Source {
-            description: _description,
-            flat: _flat,
-            exposed: _exposed,
-        } = self;
-    }
-}
-
-impl Source {
-    /// The body of an index entry.
-    pub fn into_body(self) -> Body
-        ensures { result ≡ body.Source self.description self.flat self.exposed }
-    {
-        let Source {
-            description,
-            flat,
-            exposed,
-        } = self;
-        Body::Source {
-            description,
-            flat,
-            exposed,
-        }
-    }
-}
 
 /// Reads a `.cabal` file. A fault of the layout comes first, then one of the description, then a dependency with more
 /// than 256 paths.

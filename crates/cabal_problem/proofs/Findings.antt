@@ -15,12 +15,12 @@ use Rattle.plan_types.specs.declared.description.Description.{Description}
 use Rattle.plan_types.specs.declared.description.FlagDecl.{FlagDecl}
 use Rattle.plan_types.specs.Guarded.{GuardedDep}
 use Rattle.plan_types.specs.declared.index.Body.{Body}
-use Rattle.plan_types.specs.declared.index.Body.TheVariants.{Source, Installed}
+use Rattle.plan_types.specs.declared.index.Body.TheVariants.{Source as SourceBody, Installed}
 use Rattle.plan_types.specs.declared.index.Entry.{Entry}
-use Rattle.plan_types.specs.declared.index.Exposed.{Exposed}
 use Rattle.plan_types.specs.declared.index.FlatDep.{FlatDep}
 use Rattle.plan_types.specs.declared.index.Index.{Index}
 use Rattle.plan_types.specs.declared.index.Package.{Package}
+use Rattle.plan_types.specs.declared.index.Source.{Source}
 use Rattle.conditionals.specs.Paths.{clean_paths}
 use Rattle.flatten.specs.Demands.{ExternalDep, outward, outward_in, outward_of, external, paths_at, flat_of, demands_at, demands_of}
 use Rattle.flatten.specs.Sound.{IsSound, IsPackage, IsEntry, IsSource, has_package, has_unit, has_units, IsBody, component_deps, is_of_components, is_unit}
@@ -125,12 +125,13 @@ module _ (index : Index) (names : NameTable) (numbers : AreNumbers index.package
       let has = listed-place names.flags name h in
       subst (λ o. is_number o (unwrap_or o 0) ≡ true) (sym has.is) (eq-eqb has.place has.place refl)
 
-  pub outward-package : (env : Env) (d : Description) (flats : List FlatDep) (offer : Exposed) → IsSource env index d flats offer → (dep : Dep) → IsOutward d dep → has_package index dep.«package» ≡ true
-  outward-package env d flats offer source dep is =
+  pub outward-package : (env : Env) (source : Source) → IsSource env index source → (dep : Dep) → IsOutward source.description dep → has_package index dep.«package» ≡ true
+  outward-package env source well dep is =
+      let d = source.description in
       let asked = map (λ (o : ExternalDep). o.guarded.dep.«package») (outward d) in
       let set_up = map (λ (e : Dep). e.«package») d.setup in
       subst (λ (e : Dep). has_package index e.«package» ≡ true) is.dep_is
-      (all-at (has_package index) (asked ++ set_up) is.guarded.dep.«package» source.packages
+      (all-at (has_package index) (asked ++ set_up) is.guarded.dep.«package» well.packages
       (contains-left asked set_up is.guarded.dep.«package» (map-contains (λ (o : ExternalDep). o.guarded.dep.«package») (outward d) (outward_of is.component is.guarded) is.is_outward)))
 
   tool-asked : (d : Description) (guarded : GuardedDep) (component : Component) (t : ℕ) → Contains d.components component → Contains component.build.deps guarded → not guarded.dep.internal ≡ true
@@ -141,34 +142,36 @@ module _ (index : Index) (names : NameTable) (numbers : AreNumbers index.package
       (and_from (not guarded.dep.internal && is_tool guarded.dep.kind) (is_number (number_of names.packages guarded.dep.«package») t) (and_from (not guarded.dep.internal) (is_tool guarded.dep.kind) out tool) is))
 
   -- the qualifier of the dependency has variables
-  pub kind-found : (p : ℕ) (e : Entry) (d : Description) (flats : List FlatDep) (offer : Exposed) (guarded : GuardedDep) (component : Component) (k : DepKind) → guarded.dep.kind ≡ k
-      → Contains (entries_of packages p) e → e.body ≡ Source d flats offer → Contains d.components component → Contains component.build.deps guarded → not guarded.dep.internal ≡ true
+  pub kind-found : (p : ℕ) (e : Entry) (source : Source) (guarded : GuardedDep) (component : Component) (k : DepKind) → guarded.dep.kind ≡ k
+      → Contains (entries_of packages p) e → e.body ≡ SourceBody source → Contains source.description.components component → Contains component.build.deps guarded → not guarded.dep.internal ≡ true
       → is_of_components guarded.dep.kind ≡ true → has_package index guarded.dep.«package» ≡ true → has_qual_for packages names p k guarded.dep.«package» ≡ true
-  kind-found p e d flats offer guarded component kind.Library same there body in_d in_c out comp found = refl
-  kind-found p e d flats offer guarded component kind.Tool same there body in_d in_c out comp found =
+  kind-found p e source guarded component kind.Library same there body in_d in_c out comp found = refl
+  kind-found p e source guarded component kind.Tool same there body in_d in_c out comp found =
       let t = number packages names guarded.dep.«package» in
       any-from (λ (f : Entry). depends_on_tool names t f.body) (entries_of packages p) e there
       (subst (λ b. depends_on_tool names t b ≡ true) (sym body)
-      (tool-asked d guarded component t in_d in_c out (ap is_tool same) (package-number guarded.dep.«package» found)))
-  kind-found p e d flats offer guarded component kind.Setup same there body in_d in_c out comp found = absurd (false≢true (sym (ap is_of_components same) ∙ comp))
+      (tool-asked source.description guarded component t in_d in_c out (ap is_tool same) (package-number guarded.dep.«package» found)))
+  kind-found p e source guarded component kind.Setup same there body in_d in_c out comp found = absurd (false≢true (sym (ap is_of_components same) ∙ comp))
 
-  flat-found : (env : Env) (p : ℕ) (e : Entry) (d : Description) (flats : List FlatDep) (offer : Exposed) → Contains (entries_of packages p) e → e.body ≡ Source d flats offer
-      → IsSource env index d flats offer → (flat : FlatDep) → Contains flats flat → flat_finds packages names p flat ≡ true
-  flat-found env p e d flats offer there body source flat h =
-      let is = flat-outward env d flat (subst (λ l. Contains l flat) source.demands h) in
-      let found = outward-package env d flats offer source flat.dep is in
-      let comp = all-at (λ (dep : Dep). is_of_components dep.kind) (component_deps d) is.guarded.dep source.description.component_kinds (in-component-deps d is.component is.guarded is.in_components is.in_deps) in
-      let has = kind-found p e d flats offer is.guarded is.component is.guarded.dep.kind refl there body is.in_components is.in_deps is.external_is comp
+  flat-found : (env : Env) (p : ℕ) (e : Entry) (source : Source) → Contains (entries_of packages p) e → e.body ≡ SourceBody source
+      → IsSource env index source → (flat : FlatDep) → Contains source.flat flat → flat_finds packages names p flat ≡ true
+  flat-found env p e source there body well flat h =
+      let d = source.description in
+      let is = flat-outward env d flat (subst (λ l. Contains l flat) well.demands h) in
+      let found = outward-package env source well flat.dep is in
+      let comp = all-at (λ (dep : Dep). is_of_components dep.kind) (component_deps d) is.guarded.dep well.description.component_kinds (in-component-deps d is.component is.guarded is.in_components is.in_deps) in
+      let has = kind-found p e source is.guarded is.component is.guarded.dep.kind refl there body is.in_components is.in_deps is.external_is comp
       (subst (λ (dep : Dep). has_package index dep.«package» ≡ true) (sym is.dep_is) found) in
       and_from (is_found packages names flat.dep.«package») (has_qual_for packages names p flat.dep.kind flat.dep.«package») (package-found flat.dep.«package» found)
       (subst (λ (dep : Dep). has_qual_for packages names p dep.kind dep.«package» ≡ true) is.dep_is has)
 
-  pub setup-found : (env : Env) (d : Description) (flats : List FlatDep) (offer : Exposed) → IsSource env index d flats offer → (dep : Dep) → Contains d.setup dep → is_found packages names dep.«package» ≡ true
-  setup-found env d flats offer source dep h =
+  pub setup-found : (env : Env) (source : Source) → IsSource env index source → (dep : Dep) → Contains source.description.setup dep → is_found packages names dep.«package» ≡ true
+  setup-found env source well dep h =
+      let d = source.description in
       let asked = map (λ (o : ExternalDep). o.guarded.dep.«package») (outward d) in
       let set_up = map (λ (e : Dep). e.«package») d.setup in
       package-found dep.«package»
-      (all-at (has_package index) (asked ++ set_up) dep.«package» source.packages (contains-right asked set_up dep.«package» (map-contains (λ (e : Dep). e.«package») d.setup dep h)))
+      (all-at (has_package index) (asked ++ set_up) dep.«package» well.packages (contains-right asked set_up dep.«package» (map-contains (λ (e : Dep). e.«package») d.setup dep h)))
 
   declared-listed : (p : Package) (e : Entry) (decl : FlagDecl) → Contains packages p → Contains p.entries e → Contains (declared_by e.body) decl → is_listed names.flags decl.name ≡ true
   declared-listed p e decl in_packages in_p in_e =
@@ -195,10 +198,11 @@ module _ (index : Index) (names : NameTable) (numbers : AreNumbers index.package
   -- ---- the packages
 
   body-found : (env : Env) (p : ℕ) (e : Entry) (body : Body) → p < length packages → Contains (entries_of packages p) e → e.body ≡ body → IsBody env index body → body_finds packages names p body ≡ true
-  body-found env p e (Source d flats offer) below there is source =
+  body-found env p e (SourceBody source) below there is well =
+      let d = source.description in
       let found = package_at packages p in
       let flags = list_all (λ (decl : FlagDecl). is_part names Top found (Flag (flag_number names decl.name))) d.flags in
-      let deps = list_all (flat_finds packages names p) flats in
+      let deps = list_all (flat_finds packages names p) source.flat in
       let setup = list_all (λ (dep : Dep). is_found packages names dep.«package») d.setup in
       and_from flags (deps && setup)
       (all-from (λ (decl : FlagDecl). is_part names Top found (Flag (flag_number names decl.name))) d.flags (λ decl k.
@@ -206,8 +210,8 @@ module _ (index : Index) (names : NameTable) (numbers : AreNumbers index.package
       let listed = declared-listed found e decl (Contains-get_or packages p no_package below) there declared in
       any-from (λ (f : Entry). declares names (flag_number names decl.name) f.body) (entries_of packages p) e there
       (any-from (is_flag names (flag_number names decl.name)) (declared_by e.body) decl declared (flag-number decl.name listed))))
-      (and_from deps setup (all-from (flat_finds packages names p) flats (flat-found env p e d flats offer there is source))
-      (all-from (λ (dep : Dep). is_found packages names dep.«package») d.setup (setup-found env d flats offer source)))
+      (and_from deps setup (all-from (flat_finds packages names p) source.flat (flat-found env p e source there is well))
+      (all-from (λ (dep : Dep). is_found packages names dep.«package») d.setup (setup-found env source well)))
   body-found env p e (Installed unit needs) below there is units = units-found unit.depends needs units
 
   pub entry-sound : (env : Env) → IsSound env index → (p : ℕ) → p < length packages → (e : Entry) → Contains (entries_of packages p) e → IsEntry env index (package_at packages p) e
@@ -229,20 +233,22 @@ module _ (index : Index) (names : NameTable) (numbers : AreNumbers index.package
 
 -- ---- ranges
 
-source-versions : (env : Env) (index : Index) (d : Description) (flats : List FlatDep) (offer : Exposed) → IsSource env index d flats offer → flats_have_versions flats && deps_have_versions d.setup ≡ true
-source-versions env index d flats offer source =
+source-versions : (env : Env) (index : Index) (source : Source) → IsSource env index source → flats_have_versions source.flat && deps_have_versions source.description.setup ≡ true
+source-versions env index source well =
+    let d = source.description in
+    let flats = source.flat in
     let deps = component_deps d in
     and_from (flats_have_versions flats) (deps_have_versions d.setup)
     (all-from (λ (flat : FlatDep). has_versions flat.dep.range) flats (λ flat k.
-    let is = flat-outward env d flat (subst (λ l. Contains l flat) source.demands k) in
+    let is = flat-outward env d flat (subst (λ l. Contains l flat) well.demands k) in
     subst (λ (dep : Dep). has_versions dep.range ≡ true) is.dep_is
-    (all-at (λ (dep : Dep). has_versions dep.range) (deps ++ d.setup) is.guarded.dep source.description.ranges_have_versions
+    (all-at (λ (dep : Dep). has_versions dep.range) (deps ++ d.setup) is.guarded.dep well.description.ranges_have_versions
     (contains-left deps d.setup is.guarded.dep (in-component-deps d is.component is.guarded is.in_components is.in_deps)))))
     (all-from (λ (dep : Dep). has_versions dep.range) d.setup (λ dep k.
-    all-at (λ (other : Dep). has_versions other.range) (deps ++ d.setup) dep source.description.ranges_have_versions (contains-right deps d.setup dep k)))
+    all-at (λ (other : Dep). has_versions other.range) (deps ++ d.setup) dep well.description.ranges_have_versions (contains-right deps d.setup dep k)))
 
 body-versions : (env : Env) (index : Index) (body : Body) → IsBody env index body → body_has_versions body ≡ true
-body-versions env index (Source d flats offer) source = source-versions env index d flats offer source
+body-versions env index (SourceBody source) well = source-versions env index source well
 body-versions env index (Installed unit needs) units = refl
 
 pub all-versions : (env : Env) (index : Index) → IsSound env index → packages_have_versions index.packages ≡ true

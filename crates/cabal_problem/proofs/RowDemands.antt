@@ -3,15 +3,14 @@ use Rattle.std.proofs.Common.{◌≡◌, ℕ, zero, suc, ◌+◌, ◌<◌, Bool,
 use Rattle.std.specs.List.{filter, list_all}
 use Rattle.plan_types.specs.declared.dependency.Dep.{Dep}
 use Rattle.plan_types.specs.declared.dependency.DepKind.TheVariants as kind
-use Rattle.plan_types.specs.declared.description.Description.{Description}
 use Rattle.plan_types.specs.declared.description.FlagDecl.{FlagDecl}
-use Rattle.plan_types.specs.declared.index.Body.TheVariants.{Source}
-use Rattle.plan_types.specs.declared.index.Exposed.{Exposed}
+use Rattle.plan_types.specs.declared.index.Body.TheVariants.{Source as SourceBody}
 use Rattle.plan_types.specs.declared.index.FlatDep.{FlatDep}
 use Rattle.plan_types.specs.declared.index.Literal.{Literal}
 use Rattle.plan_types.specs.declared.index.Package.{Package}
 use Rattle.plan_types.specs.declared.index.PartName.{PartName}
 use Rattle.plan_types.specs.declared.index.PartName.TheVariants as literal
+use Rattle.plan_types.specs.declared.index.Source.{Source}
 use Rattle.plan_types.specs.declared.project.Project.{Project}
 use Rattle.plan_types.specs.declared.version.Version.{Version}
 use Rattle.qualified_goals.specs.declared.variable.Part.TheVariants.{Tests, Benches}
@@ -87,11 +86,13 @@ module _ (packages : List Package) (project : Project) (names : NameTable) (owne
   flags-are : (flags : List FlagDecl) → in_pairs (flag_row project names owner) flags (map (λ (decl : FlagDecl). flag_number names decl.name) flags) ≡ map (flag_demand project names owner) flags
   flags-are flags = pairs-one (flag_row project names owner) (λ (decl : FlagDecl). flag_number names decl.name) (flag_demand project names owner) flags (λ decl. refl)
 
-  pub source-is : (d : Description) (flats : List FlatDep) (exposed : Exposed) → source_rows packages project names owner (body_dependencies packages names allows (Source d flats exposed)) d ≡ source_demands packages project names owner allows d flats
-  source-is d flats exposed =
+  pub source-is : (source : Source)
+      → source_rows packages project names owner (body_dependencies packages names allows (SourceBody source)) source.description ≡ source_demands packages project names owner allows source.description source.flat
+  source-is source =
+      let d = source.description in
       let tests = stanza_if (has_stanzas packages owner.var && has_kind is_suite d) owner Tests in
       let benches = stanza_if (has_stanzas packages owner.var && has_kind is_benchmark d) owner Benches in
-      λ i. flags-are d.flags i ++ tests ++ benches ++ deps-are flats i ++ setup_if d.custom (setup-are d.setup i)
+      λ i. flags-are d.flags i ++ tests ++ benches ++ deps-are source.flat i ++ setup_if d.custom (setup-are d.setup i)
 
   pub units-are : (ids needs : List Name) → map (need_demand owner) (map (need_at packages names ids needs) (rising (length needs))) ≡ unit_demands packages names owner ids needs
   units-are ids needs = map-map (need_at packages names ids needs) (need_demand owner) (rising (length needs))

@@ -194,13 +194,14 @@ module _ (env : Env) (index : Index) (project : Project) (names : NameTable) (or
   -- ---- an instance
 
   body-grouped : (owner : Choice) (allows : Dep → Version → Bool) (body : Body) → IsBody env index body → AreGroups (body_requests env packages project names owner allows body) (body_demands packages project names owner allows body)
-  body-grouped owner allows (Source d flats offer) source =
+  body-grouped owner allows (Source source) is =
+      let d = source.description in
       let front = front_demands packages project names owner d in
       let requests = map (whole_request env packages names owner allows) (filter (has_stanza_variable (has_stanzas packages owner.var)) (outward d)) in
-      let deps = subst (λ l. AreGroups requests (flat_demands packages names owner allows l)) (sym source.demands) (deps-grouped owner allows (outward d)) in
+      let deps = subst (λ l. AreGroups requests (flat_demands packages names owner allows l)) (sym is.demands) (deps-grouped owner allows (outward d)) in
       groups-append (requests_of front ++ requests) (setup_requests d.custom (map (setup_request packages names owner allows) d.setup))
-      (front ++ flat_demands packages names owner allows flats) (setup_if d.custom (setup_demands packages names owner allows d.setup))
-      (groups-append (requests_of front) requests front (flat_demands packages names owner allows flats) (groups-same front) deps)
+      (front ++ flat_demands packages names owner allows source.flat) (setup_if d.custom (setup_demands packages names owner allows d.setup))
+      (groups-append (requests_of front) requests front (flat_demands packages names owner allows source.flat) (groups-same front) deps)
       (setup-grouped owner allows d.custom d.setup)
   body-grouped owner allows (Installed unit needs) units = groups-same (unit_demands packages names owner unit.depends needs)
 

@@ -10,12 +10,11 @@ use Rattle.plan_types.specs.declared.dependency.DepKind.TheVariants as kind
 use Rattle.plan_types.specs.declared.description.Description.{Description}
 use Rattle.plan_types.specs.Guarded.{GuardedDep}
 use Rattle.plan_types.specs.declared.index.Body.{Body}
-use Rattle.plan_types.specs.declared.index.Body.TheVariants.{Source, Installed}
+use Rattle.plan_types.specs.declared.index.Body.TheVariants.{Source as SourceBody, Installed}
 use Rattle.plan_types.specs.declared.index.Entry.{Entry}
-use Rattle.plan_types.specs.declared.index.Exposed.{Exposed}
-use Rattle.plan_types.specs.declared.index.FlatDep.{FlatDep}
 use Rattle.plan_types.specs.declared.index.Index.{Index}
 use Rattle.plan_types.specs.declared.index.Package.{Package}
+use Rattle.plan_types.specs.declared.index.Source.{Source}
 use Rattle.plan_types.specs.declared.project.Project.{Project}
 use Rattle.plan_types.specs.declared.version.Version.{Version}
 use Rattle.conditionals.specs.Paths.{is_wanted}
@@ -78,15 +77,16 @@ module _ (env : Env) (index : Index) (project : Project) (names : NameTable) (or
         chosen = λ A yes. is_made-is A owner ((and_parts (is_made A owner) (list_all (is_made A) is.others) (sym (ap (λ when. list_all (is_made A) when) is.condition) ∙ yes)).0);
       }
 
-  whole-owned : (owner : Choice) (e : Entry) (allows : Dep → Version → Bool) (d : Description) (flats : List FlatDep) (offer : Exposed) → is_qual packages names owner.var.qual ≡ true
-      → Contains (entries_of packages owner.var.«package») e → e.body ≡ Source d flats offer → IsSource env index d flats offer
-      → (at : ExternalDep) → Contains (outward d) at → IsOwnedRequest whole owner (whole_request env packages names owner allows at)
-  whole-owned owner e allows d flats offer q there body source at h =
+  whole-owned : (owner : Choice) (e : Entry) (allows : Dep → Version → Bool) (source : Source) → is_qual packages names owner.var.qual ≡ true
+      → Contains (entries_of packages owner.var.«package») e → e.body ≡ SourceBody source → IsSource env index source
+      → (at : ExternalDep) → Contains (outward source.description) at → IsOwnedRequest whole owner (whole_request env packages names owner allows at)
+  whole-owned owner e allows source q there body well at h =
+      let d = source.description in
       let dep = at.guarded.dep in
       let is = outward-at d at h in
-      let found = outward-package index names numbers env d flats offer source dep is in
-      let comp = all-at (λ (other : Dep). is_of_components other.kind) (component_deps d) is.guarded.dep source.description.component_kinds (in-component-deps d is.component is.guarded is.in_components is.in_deps) in
-      let has = kind-found index names numbers owner.var.«package» e d flats offer is.guarded is.component is.guarded.dep.kind refl there body is.in_components is.in_deps is.external_is comp
+      let found = outward-package index names numbers env source well dep is in
+      let comp = all-at (λ (other : Dep). is_of_components other.kind) (component_deps d) is.guarded.dep well.description.component_kinds (in-component-deps d is.component is.guarded is.in_components is.in_deps) in
+      let has = kind-found index names numbers owner.var.«package» e source is.guarded is.component is.guarded.dep.kind refl there body is.in_components is.in_deps is.external_is comp
       (subst (λ (other : Dep). Rattle.flatten.specs.Sound.has_package index other.«package» ≡ true) (sym is.dep_is) found) in
       record {
         owner_is = refl;
@@ -96,17 +96,17 @@ module _ (env : Env) (index : Index) (project : Project) (names : NameTable) (or
             && is_wanted true (value env (flags_of (parts_under names owner A)) (whole_condition at.component at.guarded))) yes).0;
       }
 
-  script-owned : (owner : Choice) (e : Entry) (allows : Dep → Version → Bool) (d : Description) (flats : List FlatDep) (offer : Exposed) → is_qual packages names owner.var.qual ≡ true
-      → (d.custom ≡ true → is_qual packages names (Setup owner.var.«package») ≡ true) → IsSource env index d flats offer
-      → (custom : Bool) → d.custom ≡ custom → (r : Request) → Contains (setup_requests custom (map (setup_request packages names owner allows) d.setup)) r → IsOwnedRequest whole owner r
-  script-owned owner e allows d flats offer q has source false same r h = absurd (contains-none r h)
-  script-owned owner e allows d flats offer q has source true same r h =
-      let found = contains-map (setup_request packages names owner allows) d.setup r h in
+  script-owned : (owner : Choice) (e : Entry) (allows : Dep → Version → Bool) (source : Source) → is_qual packages names owner.var.qual ≡ true
+      → (source.description.custom ≡ true → is_qual packages names (Setup owner.var.«package») ≡ true) → IsSource env index source
+      → (custom : Bool) → source.description.custom ≡ custom → (r : Request) → Contains (setup_requests custom (map (setup_request packages names owner allows) source.description.setup)) r → IsOwnedRequest whole owner r
+  script-owned owner e allows source q has well false same r h = absurd (contains-none r h)
+  script-owned owner e allows source q has well true same r h =
+      let found = contains-map (setup_request packages names owner allows) source.description.setup r h in
       let dep = found.0 in
       subst (λ s. IsOwnedRequest whole owner s) found.2
       (record {
         owner_is = refl;
-        target = target-known packages names owner.var kind.Setup dep.«package» q (setup-found index names numbers env d flats offer source dep found.1) (has same);
+        target = target-known packages names owner.var kind.Setup dep.«package» q (setup-found index names numbers env source well dep found.1) (has same);
         chosen = λ A yes. is_made-is A owner yes;
       })
 
@@ -119,9 +119,10 @@ module _ (env : Env) (index : Index) (project : Project) (names : NameTable) (or
 
   body-requests-owned : (owner : Choice) (e : Entry) (allows : Dep → Version → Bool) (body : Body) → is_qual packages names owner.var.qual ≡ true → Contains (entries_of packages owner.var.«package») e → e.body ≡ body
       → IsBody env index body → AreBodyOwned owner allows body → (r : Request) → Contains (body_requests env packages project names owner allows body) r → IsOwnedRequest whole owner r
-  body-requests-owned owner e allows (Source d flats offer) q there same source owned r h =
+  body-requests-owned owner e allows (SourceBody source) q there same well owned r h =
+      let d = source.description in
       let front = front_demands packages project names owner d in
-      let deps = flat_demands packages names owner allows flats in
+      let deps = flat_demands packages names owner allows source.flat in
       let setups = setup_if d.custom (setup_demands packages names owner allows d.setup) in
       let request = whole_request env packages names owner allows in
       let requests = map request (filter (has_stanza_variable (has_stanzas packages owner.var)) (outward d)) in
@@ -135,11 +136,11 @@ module _ (env : Env) (index : Index) (project : Project) (names : NameTable) (or
           | inr k ↦
               let at = contains-map request (filter (has_stanza_variable (has_stanzas packages owner.var)) (outward d)) r k in
               subst (λ s. IsOwnedRequest whole owner s) at.2
-              (whole-owned owner e allows d flats offer q there same source at.0 (contains-filter (has_stanza_variable (has_stanzas packages owner.var)) (outward d) at.0 at.1).0)
+              (whole-owned owner e allows source q there same well at.0 (contains-filter (has_stanza_variable (has_stanzas packages owner.var)) (outward d) at.0 at.1).0)
         ]
         | inr s ↦
             let has = λ (custom : d.custom ≡ true). any-from (λ (f : Entry). is_custom f.body) (entries_of packages owner.var.«package») e there (ap is_custom same ∙ custom) in
-            script-owned owner e allows d flats offer q has source d.custom refl r s
+            script-owned owner e allows source q has well d.custom refl r s
       ]
   body-requests-owned owner e allows (Installed unit needs) q there same units owned r h =
       let one = contains-map request_of (unit_demands packages names owner unit.depends needs) r h in

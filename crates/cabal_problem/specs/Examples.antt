@@ -52,7 +52,7 @@ base local = record {
 }
 
 abbrev main_body : Body
-main_body = Source main [] (record { libs = Named (codes "sub") ∷ []; exes = [] })
+main_body = Source (record { description = main; flat = []; exposed = record { libs = Named (codes "sub") ∷ []; exes = [] } })
 
 abbrev packages : List Package
 packages =

@@ -39,7 +39,7 @@ source_finds packages names p d flats =
 
 -- all flags and packages of an instance's demands are known
 abbrev pub body_finds : List Package → NameTable → ℕ → Body → Bool
-body_finds packages names p (Source d flats exposed) = source_finds packages names p d flats
+body_finds packages names p (Source source) = source_finds packages names p source.description source.flat
 body_finds packages names p (Installed record_of needs) = list_all (is_found packages names) needs
 
 -- the same for all instances of a package

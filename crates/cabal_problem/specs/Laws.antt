@@ -79,15 +79,15 @@ module _ (packages : List Package) (names : NameTable) where
       ] refl
 
   tool-below : (t : ℕ) (body : Body) → depends_on_tool names t body ≡ true → t < length names.packages
-  tool-below t (Source d flats exposed) h =
-      let component = any-at (component_depends names t) d.components h in
+  tool-below t (Source source) h =
+      let component = any-at (component_depends names t) source.description.components h in
       let guarded = any-at (λ (g : GuardedDep). is_tool_of names t g.dep) component.0.build.deps component.2 in
       let test = is_number (number_of names.packages guarded.0.dep.«package») t in
       position-below (same_text guarded.0.dep.«package») names.packages t ((and_parts (not guarded.0.dep.internal && is_tool guarded.0.dep.kind) test guarded.2).1)
   tool-below t (Installed unit needs) h = absurd (false≢true h)
 
   flag-below : (f : ℕ) (body : Body) → declares names f body ≡ true → f < length names.flags
-  flag-below f (Source d flats exposed) h = let decl = any-at (is_flag names f) d.flags h in position-below (same_text decl.0.name) names.flags f decl.2
+  flag-below f (Source source) h = let decl = any-at (is_flag names f) source.description.flags h in position-below (same_text decl.0.name) names.flags f decl.2
   flag-below f (Installed unit needs) h = absurd (false≢true h)
 
   qual-in : (q : Qual) → is_qual packages names q ≡ true → Contains (all_quals (rising (length packages)) (rising (length names.packages))) q
@@ -321,7 +321,9 @@ module _ (packages : List Package) (project : Project) (names : NameTable) (orde
       (same ∙ and_from (top && local_is) some stanzas has)
 
   body-owned : (owner : Choice) (allows : Dep → Version → Bool) (body : Body) → IsOwner owner body → (d : Demand) → Contains (body_demands packages project names owner allows body) d → Owned owner d
-  body-owned owner allows (Source description flats exposed) is d h =
+  body-owned owner allows (Source source) is d h =
+      let description = source.description in
+      let flats = source.flat in
       let flags = map (flag_demand project names owner) description.flags in
       let tests = stanza_if (has_stanzas packages owner.var && has_kind is_suite description) owner Tests in
       let benches = stanza_if (has_stanzas packages owner.var && has_kind is_benchmark description) owner Benches in
@@ -337,10 +339,10 @@ module _ (packages : List Package) (project : Project) (names : NameTable) (orde
             | inl front ↦ elim (contains-append flags tests d front) [
               | inl f ↦ flags-owned owner description.flags is.qual is.below ((and_parts flags_test (flats_test && setup_test) is.finds).0) d f
               | inr t ↦ stanza-owned (has_stanzas packages owner.var && has_kind is_suite description) owner Tests
-                  (stanza-known owner (Source description flats exposed) is_suite Tests is refl) d t
+                  (stanza-known owner (Source source) is_suite Tests is refl) d t
             ]
             | inr b ↦ stanza-owned (has_stanzas packages owner.var && has_kind is_benchmark description) owner Benches
-                (stanza-known owner (Source description flats exposed) is_benchmark Benches is refl) d b
+                (stanza-known owner (Source source) is_benchmark Benches is refl) d b
           ]
           | inr f ↦ flat-owned owner allows flats is.qual ((and_parts flats_test setup_test rest).0) d f
         ]

@@ -164,7 +164,7 @@ source_demands packages project names owner allows d flats =
 
 -- the demands of a chosen instance with this body
 abbrev pub body_demands : List Package → Project → NameTable → Choice → (Dep → Version → Bool) → Body → List Demand
-body_demands packages project names owner allows (Source d flats exposed) = source_demands packages project names owner allows d flats
+body_demands packages project names owner allows (Source source) = source_demands packages project names owner allows source.description source.flat
 body_demands packages project names owner allows (Installed record_of needs) = unit_demands packages names owner record_of.depends needs
 
 -- the demands of the chosen instance of an entry

@@ -30,7 +30,7 @@ is_top (Exe p t) = false
 
 -- a source instance with a setup script of its own
 abbrev pub is_custom : Body → Bool
-is_custom (Source description flat exposed) = description.custom
+is_custom (Source source) = source.description.custom
 is_custom (Installed record_of needs) = false
 
 -- whether a dependency is on a tool
@@ -49,7 +49,7 @@ component_depends names t component = list_any (λ guarded. is_tool_of names t g
 
 -- whether a source instance depends on this tool, under any condition
 abbrev pub depends_on_tool : NameTable → ℕ → Body → Bool
-depends_on_tool names t (Source description flat exposed) = list_any (component_depends names t) description.components
+depends_on_tool names t (Source source) = list_any (component_depends names t) source.description.components
 depends_on_tool names t (Installed record_of needs) = false
 
 -- the qualifiers: top level, the setups of packages with a setup script, and the tools that a package depends on
@@ -86,7 +86,7 @@ has_kind is_wanted d = list_any (λ component. is_wanted component.kind) d.compo
 
 -- whether an instance has a component of this kind
 abbrev pub body_has_kind : (CompKind → Bool) → Body → Bool
-body_has_kind is_wanted (Source description flat exposed) = has_kind is_wanted description
+body_has_kind is_wanted (Source source) = has_kind is_wanted source.description
 body_has_kind is_wanted (Installed record_of needs) = false
 
 -- the parts: the package, the flags that its instances declare, and at top level the stanzas of a local package

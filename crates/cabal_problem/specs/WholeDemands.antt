@@ -99,10 +99,10 @@ setup_requests false requests = []
 
 -- the requests of an instance with this body
 abbrev pub body_requests : Env → List Package → Project → NameTable → Choice → (Dep → Version → Bool) → Body → List Request
-body_requests env packages project names owner allows (Source d flats exposed) =
-    requests_of (front_demands packages project names owner d)
-    ++ map (whole_request env packages names owner allows) (filter (has_stanza_variable (has_stanzas packages owner.var)) (outward d))
-    ++ setup_requests d.custom (map (setup_request packages names owner allows) d.setup)
+body_requests env packages project names owner allows (Source source) =
+    requests_of (front_demands packages project names owner source.description)
+    ++ map (whole_request env packages names owner allows) (filter (has_stanza_variable (has_stanzas packages owner.var)) (outward source.description))
+    ++ setup_requests source.description.custom (map (setup_request packages names owner allows) source.description.setup)
 body_requests env packages project names owner allows (Installed record_of needs) = requests_of (unit_demands packages names owner record_of.depends needs)
 
 -- choices of flags and stanzas make no requests

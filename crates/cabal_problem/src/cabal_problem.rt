@@ -238,8 +238,8 @@ impl<'a> CabalProblem<'a> {
             self.now.names owner entry.now) }
     {
         match &entry.body {
-            Body::Source { description, .. } => {
-                self.source_demands(alloc, owner, description, dependencies)
+            Body::Source(source) => {
+                self.source_demands(alloc, owner, &source.description, dependencies)
             }
             Body::Installed { .. } => unit_demands(alloc, owner, dependencies.needs.as_slice()),
         }

@@ -59,7 +59,7 @@ fn is_custom(body: &Body) -> bool
     ensures { result ≡ is_custom body.now }
 {
     match body {
-        Body::Source { description, .. } => description.custom,
+        Body::Source(source) => source.description.custom,
         Body::Installed { .. } => false,
     }
 }
@@ -74,7 +74,7 @@ fn depends_on_tool(names: &Names, t: u64, body: &Body) -> bool
     ensures { result ≡ depends_on_tool names.now t body.now }
 {
     match body {
-        Body::Source { description, .. } => some_component_asks(names, t, description),
+        Body::Source(source) => some_component_asks(names, t, &source.description),
         Body::Installed { .. } => false,
     }
 }
@@ -195,7 +195,7 @@ fn body_has_suite(body: &Body) -> bool
     ensures { result ≡ body_has_kind is_suite body.now }
 {
     match body {
-        Body::Source { description, .. } => has_suite(description),
+        Body::Source(source) => has_suite(&source.description),
         Body::Installed { .. } => false,
     }
 }
@@ -204,7 +204,7 @@ fn body_has_benchmark(body: &Body) -> bool
     ensures { result ≡ body_has_kind is_benchmark body.now }
 {
     match body {
-        Body::Source { description, .. } => has_benchmark(description),
+        Body::Source(source) => has_benchmark(&source.description),
         Body::Installed { .. } => false,
     }
 }

@@ -83,8 +83,8 @@ module _ (g : Given) where
   nowhere : (q : Qual) (p : ℕ) (o : Option Body) → body_at (selection g) q p ≡ o → LeadsNowhere (components_in o)
   nowhere q p None at c inside leads = contains-none c inside
   nowhere q p (Some (Installed unit names)) at c inside leads = contains-none c inside
-  nowhere q p (Some (Source d flats offer)) at c inside leads =
-      (body-sound g q p (Source d flats offer) (chosen-at g q p (Source d flats offer) at)).description.no_cycle c inside leads
+  nowhere q p (Some (Source source)) at c inside leads =
+      (body-sound g q p (Source source) (chosen-at g q p (Source source) at)).description.no_cycle c inside leads
 
   pub no-cycle : HasNoCycle IsNeeded
   no-cycle node path = ⊎_elim (λ a. g.holds.acyclic (var_of node) a)

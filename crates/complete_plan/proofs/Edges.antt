@@ -16,9 +16,8 @@ use Rattle.plan_types.specs.declared.description.Component.{Component}
 use Rattle.plan_types.specs.declared.description.Description.{Description}
 use Rattle.plan_types.specs.Guarded.{GuardedDep}
 use Rattle.plan_types.specs.declared.index.Body.{Body}
-use Rattle.plan_types.specs.declared.index.Body.TheVariants.{Source, Installed}
-use Rattle.plan_types.specs.declared.index.Exposed.{Exposed}
-use Rattle.plan_types.specs.declared.index.FlatDep.{FlatDep}
+use Rattle.plan_types.specs.declared.index.Body.TheVariants.{Source as SourceBody, Installed}
+use Rattle.plan_types.specs.declared.index.Source.{Source}
 use Rattle.plan_types.specs.declared.index.UnitRecord.{UnitRecord}
 use Rattle.conditionals.specs.Paths.{is_wanted}
 use Rattle.conditionals.specs.Value.{flag_in, value}
@@ -63,7 +62,7 @@ var_of node = package_var node.qual node.«package»
 -- the components of an instance that may be there
 abbrev pub components_in : Option Body → List Component
 components_in None = []
-components_in (Some (Source d flats offer)) = d.components
+components_in (Some (SourceBody source)) = source.description.components
 components_in (Some (Installed record_of needs)) = []
 
 -- the component that a piece is
@@ -114,7 +113,10 @@ outward-there d component guarded inside dep_inside out =
 
 -- ---- a source instance
 
-module _ (g : Given) (node : Node) (d : Description) (flats : List FlatDep) (offer : Exposed) (c : IsChosen g node.qual node.«package» (Source d flats offer)) where
+module _ (g : Given) (node : Node) (source : Source) (c : IsChosen g node.qual node.«package» (SourceBody source)) where
+  abbrev d : Description
+  d = source.description
+
   abbrev q : Qual
   q = node.qual
 
@@ -122,7 +124,7 @@ module _ (g : Given) (node : Node) (d : Description) (flats : List FlatDep) (off
   p = node.«package»
 
   abbrev body : Body
-  body = Source d flats offer
+  body = SourceBody source
 
   described : IsDescription d
   described = (body-sound g q p body c).description
@@ -140,22 +142,22 @@ module _ (g : Given) (node : Node) (d : Description) (flats : List FlatDep) (off
 
   -- a dependency on another package that counts
   pub dep-edge : (component : Component) (guarded : GuardedDep) (need : Need) → Contains d.components component → is_asked (selection g) q p component.kind ≡ true
-      → Contains component.build.deps guarded → guarded.dep.internal ≡ false → condition_holds g.env (flags g q p d flats offer c) (whole_condition component guarded) ≡ true
+      → Contains component.build.deps guarded → guarded.dep.internal ≡ false → condition_holds g.env (flags g q p source c) (whole_condition component guarded) ≡ true
       → Contains (dep_needs (selection g) node guarded.dep) need → PackageEdge g (var_of node) (var_of need.node)
   dep-edge component guarded need inside wanted dep_inside out counts_so h =
       let dep = guarded.dep in
       let t = target_of dep in
       let at = outward_of component guarded in
-      let made = chooser g q p d flats offer c in
-      let known = parts g q p d flats offer c in
-      let can = asked-kind g q p d flats offer c component.kind wanted in
+      let made = chooser g q p source c in
+      let known = parts g q p source c in
+      let can = asked-kind g q p source c component.kind wanted in
       let request = whole_request g.env (packages g) g.names made (allows g q p body c) in
       let stanzas = has_stanzas (packages g) made.var in
-      let asked = from-deps g q p d flats offer c (request at)
+      let asked = from-deps g q p source c (request at)
       (map-contains request (filter (has_stanza_variable stanzas) (outward d)) at (filter-contains (has_stanza_variable stanzas) (outward d) at (outward-there d component guarded inside dep_inside out) can.has)) in
       let is_yes = is_wanted true (value g.env (flags_of known) (whole_condition component guarded)) in
       let counted = and_from (are_met known (stanza_of component.kind)) is_yes can.met
-      (yes-stays g.env (flag_in (flags g q p d flats offer c)) (flags_of known) (flags-kept g q p d flats offer c) (whole_condition component guarded) counts_so) in
+      (yes-stays g.env (flag_in (flags g q p source c)) (flags_of known) (flags-kept g q p source c) (whole_condition component guarded) counts_so) in
       let edge = edge-to g q p body c (request at) asked (and_from (is_made g.assignment made) (are_met known (stanza_of component.kind) && is_yes) (is_made-from g.assignment made c.value) counted) refl in
       let under : qual_of_dep node dep t ≡ qual_for dep.kind (package_var q p) t = ap (λ b. if b then q else qual_for dep.kind (package_var q p) t) out in
       subst (PackageEdge g (var_of node)) (ap (λ k. package_var k t) (sym under) ∙ needed-var dep need h) edge
@@ -164,11 +166,11 @@ module _ (g : Given) (node : Node) (d : Description) (flats : List FlatDep) (off
   pub setup-edge : (dep : Dep) (need : Need) → d.custom ≡ true → Contains d.setup dep → Contains (dep_needs (selection g) node dep) need → PackageEdge g (var_of node) (var_of need.node)
   setup-edge dep need custom inside h =
       let t = target_of dep in
-      let made = chooser g q p d flats offer c in
+      let made = chooser g q p source c in
       let request = setup_request (packages g) g.names made (allows g q p body c) in
       let kinds = and_parts (is_of_setup dep.kind) (not dep.internal)
       (all-at (λ (other : Dep). is_of_setup other.kind && not other.internal) d.setup dep described.setup_kinds inside) in
-      let asked = from-scripts g q p d flats offer c (request dep)
+      let asked = from-scripts g q p source c (request dep)
       (subst (λ b. Contains (setup_requests b (map request d.setup)) (request dep)) (sym custom) (map-contains request d.setup dep inside)) in
       let edge = edge-to g q p body c (request dep) asked (is_made-from g.assignment made c.value) refl in
       let under : qual_of_dep node dep t ≡ Setup p =
@@ -222,7 +224,7 @@ module _ (g : Given) (node : Node) (d : Description) (flats : List FlatDep) (off
   IsEdgeTo need = PackageEdge g (var_of node) (var_of need.node) ⊎ IsInner (selection g) node need.node
 
   abbrev values : List FlagSet
-  values = flags g q p d flats offer c
+  values = flags g q p source c
 
   one-edge : (place : ℕ) (need : Need) → body_at (selection g) q p ≡ Some body → node.piece ≡ One place → Fits (selection g) q p body (One place)
       → Contains (one_needs (selection g) node values (slice_get d.components place)) need → IsEdgeTo need
@@ -295,7 +297,7 @@ module _ (g : Given) (node : Node) (unit : UnitRecord) (names : List Name) (c : 
 
     whole-fits : (q : Qual) (p : ℕ) (body : Body) → is_installed body ≡ true → Fits (selection g) q p body Whole
     whole-fits q p (Installed record_of needs) k = refl
-    whole-fits q p (Source d flats offer) k = absurd (false≢true k)
+    whole-fits q p (SourceBody source) k = absurd (false≢true k)
 
     pub unit-well : IsWell (selection g) (unit_need (selection g) node name).node
     unit-well =
@@ -329,8 +331,8 @@ module _ (g : Given) (node : Node) (w : IsWell (selection g) node) (need : Need)
       let c = chosen-at g node.qual node.«package» (Installed unit names) at in
       let from = contains-map (unit_need (selection g) node) names need k in
       inl (subst (λ (n : Need). PackageEdge g (var_of node) (var_of n.node)) from.2 (unit-edge g node unit names c from.0 from.1))
-  edge-by (Source d flats offer) at fits k =
-      piece-edge g node d flats offer (chosen-at g node.qual node.«package» (Source d flats offer) at) node.piece need at refl fits k
+  edge-by (SourceBody source) at fits k =
+      piece-edge g node source (chosen-at g node.qual node.«package» (SourceBody source) at) node.piece need at refl fits k
 
   -- each need follows a demand, or a dependency among components
   pub need-edge : PackageEdge g (var_of node) (var_of need.node) ⊎ IsInner (selection g) node need.node
@@ -359,7 +361,7 @@ module _ (g : Given) (node : Node) (w : IsWell (selection g) node) (need : Need)
       let c = chosen-at g node.qual node.«package» (Installed unit names) at in
       let from = contains-map (unit_need (selection g) node) names need k in
       subst (λ (n : Need). IsWell (selection g) n.node) from.2 (unit-well g node unit names c from.0 from.1)
-  well-by (Source d flats offer) at k = piece-well (chosen_flags (selection g) node.qual node.«package» d) d node.piece k
+  well-by (SourceBody source) at k = piece-well (chosen_flags (selection g) node.qual node.«package» source.description) source.description node.piece k
 
   -- what a node needs is well too
   pub needed-well : IsWell (selection g) need.node

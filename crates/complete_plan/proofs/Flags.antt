@@ -12,12 +12,11 @@ use Rattle.plan_types.specs.declared.description.CompKind.{CompKind}
 use Rattle.plan_types.specs.declared.description.CompKind.TheVariants as comp
 use Rattle.plan_types.specs.declared.description.Description.{Description}
 use Rattle.plan_types.specs.declared.description.FlagDecl.{FlagDecl}
-use Rattle.plan_types.specs.declared.index.Body.TheVariants.{Source}
+use Rattle.plan_types.specs.declared.index.Body.TheVariants.{Source as SourceBody}
 use Rattle.plan_types.specs.declared.index.Entry.{Entry}
-use Rattle.plan_types.specs.declared.index.Exposed.{Exposed}
-use Rattle.plan_types.specs.declared.index.FlatDep.{FlatDep}
 use Rattle.plan_types.specs.declared.index.Literal.{Literal}
 use Rattle.plan_types.specs.declared.index.PartName.TheVariants as literal
+use Rattle.plan_types.specs.declared.index.Source.{Source}
 use Rattle.conditionals.specs.Paths.{has_setting}
 use Rattle.conditionals.specs.Value.{flag_in}
 use Rattle.flatten.specs.Counting.{Parts, are_met, flags_of}
@@ -80,9 +79,12 @@ module _ (f : FlagDecl → FlagSet) (keeps : (decl : FlagDecl) → (f decl).name
 
 -- ---- flags
 
-module _ (g : Given) (q : Qual) (p : ℕ) (d : Description) (flats : List FlatDep) (offer : Exposed) (c : IsChosen g q p (Source d flats offer)) where
+module _ (g : Given) (q : Qual) (p : ℕ) (source : Source) (c : IsChosen g q p (SourceBody source)) where
+  abbrev d : Description
+  d = source.description
+
   abbrev chooser : Choice
-  chooser = request.chooser g q p d flats offer c
+  chooser = request.chooser g q p source c
 
   abbrev pub parts : Parts
   parts = parts_under g.names chooser g.assignment
@@ -107,7 +109,7 @@ module _ (g : Given) (q : Qual) (p : ℕ) (d : Description) (flats : List FlatDe
   flag-set decl h =
       let made = and_from (is_made g.assignment chooser) true (is_made-from g.assignment chooser c.value) refl in
       let there = map-contains request_of (front_demands (packages g) g.project g.names chooser d) (one decl) (flag-asked decl h) in
-      let value = value-of-target g q p (Source d flats offer) c (request_of (one decl)) (request.from-front g q p d flats offer c (request_of (one decl)) there) made in
+      let value = value-of-target g q p (SourceBody source) c (request_of (one decl)) (request.from-front g q p source c (request_of (one decl)) there) made in
       let small : value.0 < 2 = (g.holds.assignment.choice (choice_of (flag_at decl) value.0) value.1).value in
       ap as_setting value.1 ∙ set-as value.0 small ∙ ap (λ o. Some (is_value_on o)) (sym value.1)
 

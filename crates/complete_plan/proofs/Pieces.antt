@@ -15,9 +15,8 @@ use Rattle.plan_types.specs.declared.description.CompKind.TheVariants as comp
 use Rattle.plan_types.specs.declared.description.Component.{Component}
 use Rattle.plan_types.specs.declared.description.Description.{Description}
 use Rattle.plan_types.specs.declared.index.Body.{Body}
-use Rattle.plan_types.specs.declared.index.Body.TheVariants.{Source, Installed}
-use Rattle.plan_types.specs.declared.index.Exposed.{Exposed}
-use Rattle.plan_types.specs.declared.index.FlatDep.{FlatDep}
+use Rattle.plan_types.specs.declared.index.Body.TheVariants.{Source as SourceBody, Installed}
+use Rattle.plan_types.specs.declared.index.Source.{Source}
 use Rattle.flatten.specs.OwnComponents.{is_executable, is_lib, name_of}
 use Rattle.qualified_goals.specs.declared.variable.Qual.{Qual}
 use Rattle.qualified_goals.specs.declared.variable.Qual.TheVariants.{Top}
@@ -81,8 +80,8 @@ places-at test components place h =
 -- a unit is one piece, and so is a package with a setup script of its own; any other has components that are asked for
 abbrev pub Fits : Selection → Qual → ℕ → Body → Piece → Type 0
 Fits selection q p (Installed record_of needs) piece = piece ≡ Whole
-Fits selection q p (Source d flats offer) Whole = d.custom ≡ true
-Fits selection q p (Source d flats offer) (One place) = (d.custom ≡ false) × StandsAt (λ c. is_asked selection q p c.kind) d.components place
+Fits selection q p (SourceBody source) Whole = source.description.custom ≡ true
+Fits selection q p (SourceBody source) (One place) = (source.description.custom ≡ false) × StandsAt (λ c. is_asked selection q p c.kind) source.description.components place
 
 -- an instance is chosen that has the piece
 pub record IsWell (selection : Selection) (node : Node) : Type 0 where
@@ -94,16 +93,16 @@ module _ (selection : Selection) (q : Qual) (p : ℕ) where
   abbrev is_asked_one : Component → Bool
   is_asked_one c = is_asked selection q p c.kind
 
-  pieces-fit : (d : Description) (flats : List FlatDep) (offer : Exposed) (custom : Bool) → d.custom ≡ custom → (ks : List ℕ)
-      → ((k : ℕ) → Contains ks k → StandsAt is_asked_one d.components k)
-      → (piece : Piece) → Contains (as_pieces custom ks) piece → Fits selection q p (Source d flats offer) piece
-  pieces-fit d flats offer false is ks each piece h =
+  pieces-fit : (source : Source) (custom : Bool) → source.description.custom ≡ custom → (ks : List ℕ)
+      → ((k : ℕ) → Contains ks k → StandsAt is_asked_one source.description.components k)
+      → (piece : Piece) → Contains (as_pieces custom ks) piece → Fits selection q p (SourceBody source) piece
+  pieces-fit source false is ks each piece h =
       let found = contains-map One ks piece h in
-      subst (Fits selection q p (Source d flats offer)) found.2 (is, each found.0 found.1)
-  pieces-fit d flats offer true is [] each piece h = absurd (contains-none piece h)
-  pieces-fit d flats offer true is (k ∷ ks) each piece h =
+      subst (Fits selection q p (SourceBody source)) found.2 (is, each found.0 found.1)
+  pieces-fit source true is [] each piece h = absurd (contains-none piece h)
+  pieces-fit source true is (k ∷ ks) each piece h =
       elim (contains-cases Whole [] piece h) [
-        | inl same ↦ subst (Fits selection q p (Source d flats offer)) same is
+        | inl same ↦ subst (Fits selection q p (SourceBody source)) same is
         | inr r ↦ absurd (contains-none piece r)
       ]
 
@@ -138,8 +137,9 @@ module _ (selection : Selection) (q : Qual) (p : ℕ) where
 
   dep-fits : (dep : Dep) (body : Body) (piece : Piece) → Contains (meant_pieces dep (Some body)) piece → Fits selection q p body piece
   dep-fits dep (Installed record_of needs) piece h = only-whole piece h
-  dep-fits dep (Source d flats offer) piece h =
-      pieces-fit d flats offer d.custom refl (places (means dep.kind dep) d.components)
+  dep-fits dep (SourceBody source) piece h =
+      let d = source.description in
+      pieces-fit source d.custom refl (places (means dep.kind dep) d.components)
       (λ k c. weaker (means dep.kind dep) is_asked_one d.components k (means-asked dep.kind dep) (places-at (means dep.kind dep) d.components k c)) piece h
 
   dep-well : (dep : Dep) (piece : Piece) → Contains (meant_pieces dep (body_at selection q p)) piece → IsWell selection (node_of q p piece)
@@ -184,8 +184,9 @@ module _ (selection : Selection) where
 
   first-fits : (local : Bool) (p : ℕ) (body : Body) (piece : Piece) → Contains (first_pieces selection local p (Some body)) piece → Fits selection Top p body piece
   first-fits local p (Installed record_of needs) piece h = only-whole selection Top p piece h
-  first-fits local p (Source d flats offer) piece h =
-      pieces-fit selection Top p d flats offer d.custom refl (first_places local (wanted_in p d) d.components) (first-stands local p d) piece h
+  first-fits local p (SourceBody source) piece h =
+      let d = source.description in
+      pieces-fit selection Top p source d.custom refl (first_places local (wanted_in p d) d.components) (first-stands local p d) piece h
 
   first-piece : (local : Bool) (p : ℕ) (piece : Piece) → Contains (first_pieces selection local p (body_at selection Top p)) piece → IsWell selection (node_of Top p piece)
   first-piece local p piece h =

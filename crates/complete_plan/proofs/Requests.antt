@@ -4,9 +4,8 @@ use Rattle.std.specs.List.{Contains, filter}
 use Rattle.common_laws.specs.Lists.{contains-left, contains-right}
 use Rattle.plan_types.specs.declared.description.Description.{Description}
 use Rattle.plan_types.specs.declared.index.Body.{Body}
-use Rattle.plan_types.specs.declared.index.Body.TheVariants.{Source}
-use Rattle.plan_types.specs.declared.index.Exposed.{Exposed}
-use Rattle.plan_types.specs.declared.index.FlatDep.{FlatDep}
+use Rattle.plan_types.specs.declared.index.Body.TheVariants.{Source as SourceBody}
+use Rattle.plan_types.specs.declared.index.Source.{Source}
 use Rattle.flatten.specs.Demands.{outward}
 use Rattle.qualified_goals.specs.declared.variable.Qual.{Qual}
 use Rattle.choice_problem.specs.declared.problem.Choice.{Choice}
@@ -15,9 +14,12 @@ use Rattle.cabal_problem.specs.ListedDemands.{has_stanzas}
 use Rattle.cabal_problem.specs.WholeDemands.{body_requests, has_stanza_variable, front_demands, requests_of, setup_request, setup_requests, whole_request}
 use Rattle.complete_plan.proofs.Given.{Given, IsChosen, allows, owner, packages}
 
-module _ (g : Given) (q : Qual) (p : ℕ) (d : Description) (flats : List FlatDep) (offer : Exposed) (c : IsChosen g q p (Source d flats offer)) where
+module _ (g : Given) (q : Qual) (p : ℕ) (source : Source) (c : IsChosen g q p (SourceBody source)) where
+  abbrev d : Description
+  d = source.description
+
   abbrev pub body : Body
-  body = Source d flats offer
+  body = SourceBody source
 
   abbrev pub chooser : Choice
   chooser = owner g q p body c

@@ -74,7 +74,7 @@ lines-for of (need ∷ needs) have =
 
 some-line : (of : Selection) (node : Node) (ids : Needed) (body : Body) → (line : PlanNode) × (line_by of node ids (Some body) ≡ Some line)
 some-line of node ids (Installed unit names) = (unit_line unit.name unit.version unit.id ids, refl)
-some-line of node ids (Source d flats offer) = (source_with_id of node (chosen_flags of node.qual node.«package» d) d ids, refl)
+some-line of node ids (Source source) = (source_with_id of node (chosen_flags of node.qual node.«package» source.description) source.description ids, refl)
 
 -- what has an instance, and all of whose needs have lines, has one
 line-from : (of : Selection) (node : Node) → IsWell of node → ((need : Need) → Contains (needs_of of node) need → HasSome of need.node)
@@ -100,8 +100,8 @@ module _ (g : Given) where
   within : (node : Node) (body : Body) (place : ℕ) → body_at (selection g) node.qual node.«package» ≡ Some body
       → Fits (selection g) node.qual node.«package» body (One place) → place < length (components_at (var_of node))
   within node (Installed unit names) place at fits = absurd (cc fits)
-  within node (Source d flats offer) place at fits =
-      subst (λ o. place < length (components_in o)) (sym at) (slice_get_within d.components place fits.1.component fits.1.at)
+  within node (Source source) place at fits =
+      subst (λ o. place < length (components_in o)) (sym at) (slice_get_within source.description.components place fits.1.component fits.1.at)
 
   listed-piece : (node : Node) (body : Body) (piece : Piece) → body_at (selection g) node.qual node.«package» ≡ Some body
       → Fits (selection g) node.qual node.«package» body piece → Contains (nodes_at (var_of node)) (node_of node.qual node.«package» piece)

@@ -68,7 +68,7 @@ has-needs selection node ids None line e = absurd (cc e)
 has-needs selection node ids (Some (Installed record_of needs)) line e =
     let same = some-same _ line e in
     record { libs = ap (λ (l : PlanNode). l.libs) (sym same); tools = ap (λ (l : PlanNode). l.tools) (sym same); setups = ap (λ (l : PlanNode). l.setups) (sym same) }
-has-needs selection node ids (Some (Source d flats exposed)) line e =
+has-needs selection node ids (Some (Source source)) line e =
     let same = some-same _ line e in
     record { libs = ap (λ (l : PlanNode). l.libs) (sym same); tools = ap (λ (l : PlanNode). l.tools) (sym same); setups = ap (λ (l : PlanNode). l.setups) (sym same) }
 

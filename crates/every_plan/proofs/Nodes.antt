@@ -131,7 +131,7 @@ module _ (selection : Selection) where
           package_is = number-low found.0;
           piece_is = whole-in (body_at selection node.qual p) Whole (contains-head Whole []);
         })
-    of-body (Some (Source d flats exposed)) need c = of-piece (chosen_flags selection node.qual node.«package» d) d node.piece need c
+    of-body (Some (Source source)) need c = of-piece (chosen_flags selection node.qual node.«package» source.description) source.description node.piece need c
 
     needed-within : (other : Node) → Contains (needed_nodes selection node) other → IsWithin other
     needed-within other c =

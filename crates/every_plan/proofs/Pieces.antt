@@ -77,13 +77,15 @@ module _ (body : Option Body) where
 pub asked-in : (dep : Dep) (body : Option Body) (piece : Piece) → Contains (meant_pieces dep body) piece → Contains (pieces_in body) piece
 asked-in dep None piece c = absurd (contains-none piece c)
 asked-in dep (Some (Installed record_of needs)) piece c = whole-in (Some (Installed record_of needs)) piece c
-asked-in dep (Some (Source d flats exposed)) piece c =
-    pieces-in (Some (Source d flats exposed)) d.custom (places (means dep.kind dep) d.components) (places-low (means dep.kind dep) d.components) piece c
+asked-in dep (Some (Source source)) piece c =
+    let d = source.description in
+    pieces-in (Some (Source source)) d.custom (places (means dep.kind dep) d.components) (places-low (means dep.kind dep) d.components) piece c
 
 -- the first pieces of a plan
 pub first-in : (selection : Selection) (local : Bool) (p : ℕ) (body : Option Body) (piece : Piece) → Contains (first_pieces selection local p body) piece → Contains (pieces_in body) piece
 first-in selection local p None piece c = absurd (contains-none piece c)
 first-in selection local p (Some (Installed record_of needs)) piece c = whole-in (Some (Installed record_of needs)) piece c
-first-in selection local p (Some (Source d flats exposed)) piece c =
+first-in selection local p (Some (Source source)) piece c =
+    let d = source.description in
     let wanted = is_wanted_under selection Top p (chosen_flags selection Top p d) in
-    pieces-in (Some (Source d flats exposed)) d.custom (first_places local wanted d.components) (first-low local wanted d.components) piece c
+    pieces-in (Some (Source source)) d.custom (first_places local wanted d.components) (first-low local wanted d.components) piece c

@@ -9,7 +9,7 @@ use Rattle.description.specs.FaultOrder.{is_at}
 use Rattle.description.specs.declared.fault_order.At.{At}
 use Rattle.outside_folder.specs.Files.{Bytes, Files}
 use Rattle.outside_folder.specs.declared.calls.Content.{Content}
-use Rattle.cabal_file.specs.declared.source.Source.{Source}
+use Rattle.plan_types.specs.declared.index.Source.{Source}
 use Rattle.index_files.specs.File.{file_found, fitting}
 use Rattle.index_files.specs.InTurn.{GoesOn, InTurn}
 use Rattle.index_files.specs.Locals.{FileComes, ReadsLocals, with_file}

@@ -6,7 +6,7 @@ use Rattle.description.specs.FaultOrder.{is_at}
 use Rattle.description.specs.declared.fault_order.At.{At}
 use Rattle.flatten.specs.Demands.{first_with_too_many_paths}
 use Rattle.cabal_file.specs.Source.{IsSource, OfDescription, digest_of, source_of, unless_beyond}
-use Rattle.cabal_file.specs.declared.source.Source.{Source}
+use Rattle.plan_types.specs.declared.index.Source.{Source}
 use Rattle.every_reading.proofs.Descriptions.{some_description}
 use Rattle.every_reading.proofs.Trees.{some_tree}
 

@@ -14,7 +14,7 @@ ghost use Rattle.section_syntax.specs.declared.part.File.{File};
 ghost use Rattle.section_syntax.specs.File.{IsFile};
 ghost use Rattle.description.specs.declared.fault_order.At.{At};
 ghost use Rattle.description.specs.Description.{Describes};
-ghost use Rattle.cabal_file.specs.declared.source.Source.{Source};
+ghost use Rattle.plan_types.specs.declared.index.Source.{Source};
 ghost use Rattle.cabal_file.specs.Source.{IsSource};
 ghost use Rattle.project_file.specs.declared.read.ProjectText.{ProjectText};
 ghost use Rattle.project_file.specs.Read.{IsProject};

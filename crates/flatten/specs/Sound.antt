@@ -12,15 +12,14 @@ use Rattle.plan_types.specs.declared.dependency.DepKind.{DepKind}
 use Rattle.plan_types.specs.declared.dependency.DepKind.TheVariants.{Library, Tool, Setup}
 use Rattle.plan_types.specs.declared.description.Description.{Description}
 use Rattle.plan_types.specs.declared.index.Body.{Body}
-use Rattle.plan_types.specs.declared.index.Body.TheVariants.{Source, Installed}
+use Rattle.plan_types.specs.declared.index.Body.TheVariants.{Source as SourceBody, Installed}
 use Rattle.plan_types.specs.declared.index.Entry.{Entry}
-use Rattle.plan_types.specs.declared.index.Exposed.{Exposed}
-use Rattle.plan_types.specs.declared.index.FlatDep.{FlatDep}
 use Rattle.plan_types.specs.declared.index.Index.{Index}
 use Rattle.plan_types.specs.declared.index.Instance.{Instance}
 use Rattle.plan_types.specs.declared.index.Origin.{Origin}
 use Rattle.plan_types.specs.declared.index.Origin.TheVariants as origin
 use Rattle.plan_types.specs.declared.index.Package.{Package}
+use Rattle.plan_types.specs.declared.index.Source.{Source}
 use Rattle.plan_types.specs.Members.{order}
 use Rattle.plan_types.specs.Name.{is_package_name, is_flag_name, is_lower}
 use Rattle.version_range.specs.Version.{is_version, has_versions}
@@ -106,16 +105,16 @@ has_units index (id ∷ ids) (name ∷ names) = has_unit index id name && has_un
 -- ---- an entry
 
 -- a sound source: a sound description, all its packages in the index, its demands and exposed components kept right
-pub record IsSource (env : Env) (index : Index) (d : Description) (flat : List FlatDep) (offer : Exposed) : Type 0 where
-  pub description : IsDescription d
-  pub packages : list_all (has_package index) (asked_packages d) ≡ true
-  pub none_beyond : first_with_too_many_paths env d ≡ None
-  pub demands : flat ≡ demands_of env d
-  pub offers : offer ≡ exposed env d
+pub record IsSource (env : Env) (index : Index) (source : Source) : Type 0 where
+  pub description : IsDescription source.description
+  pub packages : list_all (has_package index) (asked_packages source.description) ≡ true
+  pub none_beyond : first_with_too_many_paths env source.description ≡ None
+  pub demands : source.flat ≡ demands_of env source.description
+  pub offers : source.exposed ≡ exposed env source.description
 
 -- a sound body of an entry
 abbrev pub IsBody : Env → Index → Body → Type 0
-IsBody env index (Source d flat offer) = IsSource env index d flat offer
+IsBody env index (SourceBody source) = IsSource env index source
 IsBody env index (Installed unit needs) = has_units index unit.depends needs ≡ true
 
 -- the origin of a source, by whether it is local
@@ -125,7 +124,7 @@ source_origin false = origin.Source
 
 -- the instance of a body, by whether its package is local
 abbrev pub instance_of : Bool → Body → Instance
-instance_of local (Source d flat offer) = record { name = d.name; version = d.version; origin = source_origin local; unit = [] }
+instance_of local (SourceBody source) = record { name = source.description.name; version = source.description.version; origin = source_origin local; unit = [] }
 instance_of local (Installed unit needs) = record { name = unit.name; version = unit.version; origin = origin.Installed; unit = unit.id }
 
 -- a sound entry of a package

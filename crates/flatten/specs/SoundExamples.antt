@@ -11,10 +11,11 @@ use Rattle.plan_types.specs.declared.description.CompKind.TheVariants.{Library}
 use Rattle.plan_types.specs.declared.description.Component.{Component}
 use Rattle.plan_types.specs.declared.description.Description.{Description}
 use Rattle.plan_types.specs.declared.index.Body.{Body}
-use Rattle.plan_types.specs.declared.index.Body.TheVariants.{Source, Installed}
+use Rattle.plan_types.specs.declared.index.Body.TheVariants.{Source as SourceBody, Installed}
 use Rattle.plan_types.specs.declared.index.Entry.{Entry}
 use Rattle.plan_types.specs.declared.index.Index.{Index}
 use Rattle.plan_types.specs.declared.index.Package.{Package}
+use Rattle.plan_types.specs.declared.index.Source.{Source}
 use Rattle.plan_types.specs.declared.index.UnitRecord.{UnitRecord}
 use Rattle.plan_types.specs.declared.range.Range.TheOpen as range_layer
 use Rattle.plan_types.specs.declared.range.Range.TheFolds.{fold-roll-Range}
@@ -49,6 +50,9 @@ main = record {
   warnings = [];
 }
 
+abbrev source : Source
+source = record { description = main; flat = demands_of linux main; exposed = exposed linux main }
+
 abbrev base : UnitRecord
 base = record { name = codes "base"; version = record { parts = 4 ∷ 18 ∷ [] }; id = codes "base-4.18"; depends = [] }
 
@@ -59,7 +63,7 @@ abbrev of_base : Package
 of_base = record { name = codes "base"; local = false; extra = false; entries = entry_of false (Installed base []) ∷ [] }
 
 abbrev of_main : Package
-of_main = record { name = codes "main"; local = true; extra = false; entries = entry_of true (Source main (demands_of linux main) (exposed linux main)) ∷ [] }
+of_main = record { name = codes "main"; local = true; extra = false; entries = entry_of true (SourceBody source) ∷ [] }
 
 abbrev both : Index
 both = record { packages = of_base ∷ of_main ∷ []; skipped = []; warnings = [] }
@@ -120,7 +124,7 @@ main_is_in = record {
   entries = (record { instance_is = refl; named = refl; version = refl; body = kept }, tt);
 }
   where
-    kept : IsSource linux both main (demands_of linux main) (exposed linux main)
+    kept : IsSource linux both source
     kept = record { description = main_is_well; packages = refl; none_beyond = within; demands = refl; offers = refl }
 
 both_are_sound : IsSound linux both

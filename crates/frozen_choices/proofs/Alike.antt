@@ -48,7 +48,7 @@ use Rattle.frozen_choices.proofs.FlagOwners.{flag-asked, flag-declared, flag_var
 use Rattle.frozen_choices.proofs.ReleaseVersions.{one-release}
 
 source-declares : (body : Body) (decl : FlagDecl) → Contains (declared_by body) decl → is_installed body ≡ false
-source-declares (Source d flats offer) decl h = refl
+source-declares (Source source) decl h = refl
 source-declares (Installed unit needs) decl h = absurd (contains-none decl h)
 
 module _ (env : Env) (index : Index) (project : Project) (names : NameTable) (orders : List (List ℕ)) (trail : List Choice) (sound : IsSound env index)

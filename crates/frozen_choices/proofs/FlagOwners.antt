@@ -163,7 +163,8 @@ module _ (env : Env) (packages : List Package) (project : Project) (names : Name
 
   body-asks : (owner : Choice) (allows : Dep → Version → Bool) (body : Body) (r : Request) → Contains (body_requests env packages project names owner allows body) r
       → is_flag_part r.target.part ≡ true → AsksFlag project names owner body r
-  body-asks owner allows (Source d flats offer) r h on_flag =
+  body-asks owner allows (Source source) r h on_flag =
+      let d = source.description in
       let front = requests_of (front_demands packages project names owner d) in
       let asked = filter (has_stanza_variable (has_stanzas packages owner.var)) (outward d) in
       let deps = map (whole_request env packages names owner allows) asked in
@@ -193,7 +194,8 @@ module _ (env : Env) (packages : List Package) (project : Project) (names : Name
 
   declared-among : (owner : Choice) (allows : Dep → Version → Bool) (body : Body) (decl : FlagDecl) → Contains (declared_by body) decl
       → Contains (body_requests env packages project names owner allows body) (request_of (flag_demand project names owner decl))
-  declared-among owner allows (Source d flats offer) decl h =
+  declared-among owner allows (Source source) decl h =
+      let d = source.description in
       let one = flag_demand project names owner decl in
       let flags = map (flag_demand project names owner) d.flags in
       let has = has_stanzas packages owner.var in

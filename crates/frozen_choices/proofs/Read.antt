@@ -43,11 +43,11 @@ module _ (env : Env) (index : Index) (names : NameTable) (trail : List Choice) (
 
   -- the name of a declared flag
   flag-named : (body : Body) → IsBody env index body → (decl : FlagDecl) → Contains (declared_by body) decl → is_flag_name decl.name ≡ true
-  flag-named (Source d flats offer) source decl h = all-at (λ (f : FlagDecl). is_flag_name f.name) d.flags decl source.description.flag_names h
+  flag-named (Source source) is decl h = all-at (λ (f : FlagDecl). is_flag_name f.name) source.description.flags decl is.description.flag_names h
   flag-named (Installed unit needs) units decl h = absurd (contains-none decl h)
 
   flag-lower : (body : Body) → IsBody env index body → (decl : FlagDecl) → Contains (declared_by body) decl → is_lower decl.name ≡ true
-  flag-lower (Source d flats offer) source decl h = all-at (λ (f : FlagDecl). is_lower f.name) d.flags decl source.description.flags_lower h
+  flag-lower (Source source) is decl h = all-at (λ (f : FlagDecl). is_lower f.name) source.description.flags decl is.description.flags_lower h
   flag-lower (Installed unit needs) units decl h = absurd (contains-none decl h)
 
   made-plain : (q : Qual) (p i : ℕ) → p < length packages → i < length (entries_of packages p) → (at : Scope) → is_plain_scope at ≡ true

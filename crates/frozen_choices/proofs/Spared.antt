@@ -39,8 +39,8 @@ use Rattle.frozen_choices.proofs.Told.{no-benches, no-tests, not-asked, not-excl
 use Rattle.frozen_choices.proofs.Alike.{alike-in-scope, choice-is, flag-kept}
 
 origin-is : (in_project : Bool) (body : Body) → is_unit (instance_of in_project body).origin ≡ is_installed body
-origin-is true (Source d flats offer) = refl
-origin-is false (Source d flats offer) = refl
+origin-is true (Source source) = refl
+origin-is false (Source source) = refl
 origin-is in_project (Installed unit needs) = refl
 
 module _ (env : Env) (index : Index) (project : Project) (names : NameTable) (orders : List (List ℕ)) (trail : List Choice) (sound : IsSound env index)

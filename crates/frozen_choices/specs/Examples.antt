@@ -33,16 +33,20 @@ flag manual name = record { line = 1; name = name; default = true; manual = manu
 
 abbrev described : List ℕ → List FlagDecl → Body
 described name flags = Source (record {
-  spec = V3_0;
-  name = name;
-  version = version 1;
-  custom = true;
-  flags = flags;
-  components = [];
-  setup = [];
-  digest = [];
-  warnings = [];
-}) [] (record { libs = []; exes = [] })
+  description = record {
+    spec = V3_0;
+    name = name;
+    version = version 1;
+    custom = true;
+    flags = flags;
+    components = [];
+    setup = [];
+    digest = [];
+    warnings = [];
+  };
+  flat = [];
+  exposed = record { libs = []; exes = [] };
+})
 
 abbrev entry : Bool → Body → Entry
 entry local body = record { instance = instance_of local body; body = body }

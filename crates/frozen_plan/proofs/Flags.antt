@@ -40,7 +40,7 @@ use Rattle.frozen_plan.proofs.Lists.{each-at}
 
 -- what declares a flag is a source instance
 pub declared-source : (body : Body) (decl : FlagDecl) → Contains (declared_by body) decl → is_installed body ≡ false
-declared-source (Source d flats offer) decl h = refl
+declared-source (Source source) decl h = refl
 declared-source (Installed unit needs) decl h = absurd (contains-none decl h)
 
 -- and stands among the instances of its package
@@ -99,7 +99,7 @@ one-declared (first ∷ decls) a b rise h k same =
 -- an instance declares one flag of a name
 pub one-flag : (env : Env) (index : Index) (body : Body) (a b : FlagDecl) → IsBody env index body → Contains (declared_by body) a → Contains (declared_by body) b
     → a.name ≡ b.name → a ≡ b
-one-flag env index (Source d flats offer) a b is h k same = one-declared d.flags a b is.description.flags_rise h k same
+one-flag env index (Source source) a b is h k same = one-declared source.description.flags a b is.description.flags_rise h k same
 one-flag env index (Installed unit needs) a b is h k same = absurd (contains-none a h)
 
 -- ---- values

@@ -156,7 +156,8 @@ module _ (env : Env) (index : Index) (project : Project) (names : NameTable) (or
   body-narrowed : (owner : Choice) (allows : Dep → Version → Bool) (body : Body)
       → ((decl : FlagDecl) → Contains (declared_by body) decl → IsNarrowed h (request_of (flag_demand project names owner decl)) (request_of (flag_demand frozen_project names owner decl)))
       → AllZip (IsNarrowed h) (body_requests env packages project names owner allows body) (body_requests env packages frozen_project names owner allows body)
-  body-narrowed owner allows (Source d flats offer) flags =
+  body-narrowed owner allows (Source source) flags =
+      let d = source.description in
       let R = IsNarrowed h in
       let S = λ (a b : Demand). R (request_of a) (request_of b) in
       let tests = stanza_if (has_stanzas packages owner.var && has_kind is_suite d) owner Tests in

@@ -10,7 +10,7 @@ use Rattle.plan_types.specs.declared.index.Origin.TheVariants.{Installed}
 use Rattle.plan_types.specs.declared.index.UnitRecord.{UnitRecord}
 use Rattle.flatten.specs.Sound.{instance_of, unit_order}
 use Rattle.outside_folder.specs.Files.{Bytes}
-use Rattle.cabal_file.specs.declared.source.Source.{Source}
+use Rattle.plan_types.specs.declared.index.Source.{Source}
 use Rattle.index_files.specs.Units.{needed_names}
 use Rattle.index_files.specs.declared.local.Local.{Local}
 use Rattle.index_files.specs.declared.release.Judged.{Judged}
@@ -26,7 +26,7 @@ entry_of local known = record { instance = instance_of local known; body = known
 
 -- the entry of a source
 abbrev pub source_entry : Bool → Source → Entry
-source_entry local source = entry_of local (body.Source source.description source.flat source.exposed)
+source_entry local source = entry_of local (body.Source source)
 
 -- the entries of a name
 abbrev pub entries_named : Bytes → List Entry → List Entry

@@ -13,10 +13,9 @@ ghost use Rattle.plan_types.specs.Bytes.{same_text};
 
 use crate::groups::EntriesByName;
 use crate::order::{sort_releases, sort_units};
-use cabal_file::Source;
 use index_files::{FoundName, Judged, Release};
 use indexmap::IndexSet;
-use plan_types::{Body, Entry, Instance, List, NoMemory, Origin, Package, Skipped, Text};
+use plan_types::{Body, Entry, Instance, List, NoMemory, Origin, Package, Skipped, Source, Text};
 use std::alloc::Global;
 
 /// Packages and skipped files, both still unordered.
@@ -162,7 +161,7 @@ pub(crate) fn source_entry(alloc: Global, local: bool, source: Source) -> Result
             origin: source_origin(local),
             unit: Text::new(alloc),
         },
-        body: source.into_body(),
+        body: Body::Source(source),
     })
 }
 

@@ -10,7 +10,7 @@ use Rattle.plan_types.specs.declared.index.UnitRecord.{UnitRecord}
 use Rattle.plan_types.specs.declared.refusal.Cause.{Cause}
 use Rattle.plan_types.specs.declared.refusal.Cause.TheVariants.{DuplicateLocal, DuplicateUnit}
 use Rattle.plan_types.specs.declared.refusal.Refusal.{Refusal}
-use Rattle.cabal_file.specs.declared.source.Source.{Source}
+use Rattle.plan_types.specs.declared.index.Source.{Source}
 use Rattle.index_files.specs.InTurn.{GoesOn, InTurn}
 use Rattle.index_files.specs.Locals.{AreLocals, FileComes, local_name, local_names, local_path, with_file}
 use Rattle.index_files.specs.OnceEach.{unless_there}

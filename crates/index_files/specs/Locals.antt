@@ -8,7 +8,7 @@ use Rattle.plan_types.specs.Refusal.{refusal_at}
 use Rattle.plan_types.specs.declared.refusal.Refusal.{Refusal}
 use Rattle.description.specs.declared.fault_order.At.{At}
 use Rattle.outside_folder.specs.Files.{Bytes, Files}
-use Rattle.cabal_file.specs.declared.source.Source.{Source}
+use Rattle.plan_types.specs.declared.index.Source.{Source}
 use Rattle.index_files.specs.File.{file_found}
 use Rattle.index_files.specs.InTurn.{InTurn}
 use Rattle.index_files.specs.OnceEach.{unless_there}

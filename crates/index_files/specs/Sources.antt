@@ -10,7 +10,7 @@ use Rattle.outside_folder.specs.Files.{Bytes}
 use Rattle.description.specs.FaultOrder.{is_at}
 use Rattle.description.specs.declared.fault_order.At.{At}
 use Rattle.cabal_file.specs.Source.{IsSource}
-use Rattle.cabal_file.specs.declared.source.Source.{Source}
+use Rattle.plan_types.specs.declared.index.Source.{Source}
 
 -- the bytes of a file: empty if it is missing, nothing if it is too large
 abbrev pub bytes_in : Content → Option Bytes

@@ -6,9 +6,9 @@ ghost use Rattle.outside_folder.specs.Calls.{IsWithin};
 ghost use Rattle.description.specs.FaultOrder.{is_at};
 ghost use Rattle.index_files.specs.Sources.{Comes, bytes_in};
 
-use cabal_file::{Source, read_source};
+use cabal_file::read_source;
 use outside_folder::Content;
-use plan_types::{Cause, Env, Fault};
+use plan_types::{Cause, Env, Fault, Source};
 use std::alloc::Global;
 
 /// The source of a package's file, or its fault.

@@ -1,8 +1,7 @@
 // A local package.
 ghost use Rattle.std.specs.Prelude.{◌≡◌, IfOk};
 
-use cabal_file::Source;
-use plan_types::{NoMemory, Text};
+use plan_types::{NoMemory, Source, Text};
 
 /// A local package with the path of its file.
 #[derive(Debug)]

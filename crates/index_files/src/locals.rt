@@ -11,10 +11,9 @@ ghost use Rattle.plan_types.specs.Refusal.{Answers, Settles};
 use crate::file::{ReadFile, read_file};
 use crate::file_source::source_in;
 use crate::local::Local;
-use cabal_file::Source;
 use indexmap::IndexSet;
 use outside_folder::Folder;
-use plan_types::{Cause, Env, Fault, Halt, List, NoMemory, Refusal, Text};
+use plan_types::{Cause, Env, Fault, Halt, List, NoMemory, Refusal, Source, Text};
 use std::alloc::Global;
 
 /// Local packages with their names.

@@ -9,9 +9,8 @@ ghost use Rattle.index_files.specs.Releases.{AddsJudged, AddsRelease, AreRelease
 use crate::file::ReadFile;
 use crate::file_source::source_in;
 use crate::versions::VersionDir;
-use cabal_file::Source;
 use outside_folder::Content;
-use plan_types::{Cause, Description, Env, Fault, List, NoMemory, Text, Version};
+use plan_types::{Cause, Description, Env, Fault, List, NoMemory, Source, Text, Version};
 use std::alloc::Global;
 
 /// A release's source, or the fault for which it is skipped.

@@ -8,7 +8,7 @@ use Rattle.plan_types.specs.declared.index.Index.{Index}
 use Rattle.plan_types.specs.declared.index.Package.{Package}
 use Rattle.flatten.specs.Sound.{IsEntry, asked_packages, has_package, has_units, instance_of}
 use Rattle.outside_folder.specs.Files.{Bytes}
-use Rattle.cabal_file.specs.declared.source.Source.{Source}
+use Rattle.plan_types.specs.declared.index.Source.{Source}
 use Rattle.index_files.specs.Units.{IsWellFormed, needed_names, unit_name}
 use Rattle.index_files.specs.declared.unit.Unit.{Unit}
 use Rattle.index_assembly.specs.Entries.{source_entry, unit_entry}
@@ -22,7 +22,7 @@ module _ (env : Env) (index : Index) where
   pub source-is : (local : Bool) (name : Bytes) (source : Source) → IsWell env source → source.description.name ≡ name → list_all (has_package index) (asked_packages source.description) ≡ true
       → IsEntryOf local name (source_entry local source)
   source-is local name source well named asked p is names = record {
-    instance_is = ap (λ l. instance_of l (body.Source source.description source.flat source.exposed)) (sym is);
+    instance_is = ap (λ l. instance_of l (body.Source source)) (sym is);
     named = named ∙ sym names;
     version = well.version;
     body = record { description = well.described; packages = asked; none_beyond = well.none_beyond; demands = well.demands; offers = well.offers };

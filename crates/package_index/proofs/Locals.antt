@@ -8,7 +8,7 @@ use Rattle.plan_types.specs.declared.index.Entry.{Entry}
 use Rattle.flatten.specs.Sound.{asked_packages}
 use Rattle.outside_folder.specs.declared.calls.Content.{Content}
 use Rattle.outside_folder.specs.Files.{Bytes}
-use Rattle.cabal_file.specs.declared.source.Source.{Source}
+use Rattle.plan_types.specs.declared.index.Source.{Source}
 use Rattle.index_files.specs.Closure.{asked_by_local, asked_locally}
 use Rattle.index_files.specs.Locals.{local_name, local_names}
 use Rattle.index_files.specs.Readings.{IsFromFile}

@@ -8,7 +8,7 @@ use Rattle.description.specs.declared.fault_order.At.{At}
 use Rattle.outside_folder.specs.Files.{Bytes, Files}
 use Rattle.outside_folder.specs.declared.calls.Content.{Content}
 use Rattle.cabal_file.specs.Source.{IsSource}
-use Rattle.cabal_file.specs.declared.source.Source.{Source}
+use Rattle.plan_types.specs.declared.index.Source.{Source}
 use Rattle.unit_record.specs.Record.{IsRecord}
 use Rattle.index_files.specs.File.{file_found, fitting}
 use Rattle.index_files.specs.Locals.{FileComes, ReadsLocals, with_file}

@@ -7,7 +7,7 @@ use Rattle.plan_types.specs.declared.condition.Env.{Env}
 use Rattle.plan_types.specs.declared.index.Index.{Index}
 use Rattle.flatten.specs.Sound.{asked_packages, has_package}
 use Rattle.outside_folder.specs.Files.{Bytes}
-use Rattle.cabal_file.specs.declared.source.Source.{Source}
+use Rattle.plan_types.specs.declared.index.Source.{Source}
 use Rattle.index_files.specs.Releases.{asked_by, asked_in}
 use Rattle.index_files.specs.declared.release.Judged.{Judged}
 use Rattle.index_files.specs.declared.release.Judged.TheVariants.{Readable, Faulty}

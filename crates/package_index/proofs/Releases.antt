@@ -11,7 +11,7 @@ use Rattle.description.specs.declared.fault_order.At.{At}
 use Rattle.outside_folder.specs.declared.calls.Content.{Content}
 use Rattle.outside_folder.specs.declared.calls.Content.TheVariants.{Missing, TooLarge, Bytes as Holds}
 use Rattle.outside_folder.specs.Files.{Bytes}
-use Rattle.cabal_file.specs.declared.source.Source.{Source}
+use Rattle.plan_types.specs.declared.index.Source.{Source}
 use Rattle.index_files.specs.Releases.{AreReleases, IsOneRelease, IsReleaseIn, is_in_place, judged_as}
 use Rattle.index_files.specs.Sources.{Comes}
 use Rattle.index_files.specs.Steps.{AreJudged}

@@ -14,7 +14,7 @@ use Rattle.flatten.specs.Demands.{demands_of, first_with_too_many_paths}
 use Rattle.flatten.specs.Exposure.{exposed}
 use Rattle.flatten.specs.Sound.{IsDescription, asked_packages}
 use Rattle.cabal_file.specs.Source.{OfDescription, source_of, unless_beyond}
-use Rattle.cabal_file.specs.declared.source.Source.{Source}
+use Rattle.plan_types.specs.declared.index.Source.{Source}
 use Rattle.index_files.specs.Sources.{Comes, OfBytes, bytes_in}
 
 -- all descriptions that are read are sound and well-formed

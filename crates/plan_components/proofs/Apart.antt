@@ -51,7 +51,7 @@ rising-apart (x ∷ names) h = and_from _ _ (ap not (none-same x names h.0)) (ri
 -- ---- a sound index
 
 body-apart : (env : Env) (index : Index) (body : Body) → IsBody env index body → flags_apart body ≡ true
-body-apart env index (Source d flats exposed) h = rising-apart (map (λ decl. decl.name) d.flags) h.description.flags_rise
+body-apart env index (Source source) h = rising-apart (map (λ decl. decl.name) source.description.flags) h.description.flags_rise
 body-apart env index (Installed unit needs) h = refl
 
 entries-apart : (env : Env) (index : Index) (p : Package) (entries : List Entry) (i : ℕ) → AllByRecursion (IsEntry env index p) entries → flags_apart (entry_at entries i).body ≡ true

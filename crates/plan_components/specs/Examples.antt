@@ -6,8 +6,9 @@ use Rattle.plan_types.specs.declared.description.CompKind.TheVariants.{Library, 
 use Rattle.plan_types.specs.declared.condition.Cond.TheVariants.{Always}
 use Rattle.conditionals.specs.Layers.{value-Flag, value-And}
 use Rattle.plan_types.specs.declared.description.Description.{Description}
-use Rattle.plan_types.specs.declared.index.Body.TheVariants.{Source, Installed}
+use Rattle.plan_types.specs.declared.index.Body.TheVariants.{Source as SourceBody, Installed}
 use Rattle.plan_types.specs.declared.index.Package.{Package}
+use Rattle.plan_types.specs.declared.index.Source.{Source}
 use Rattle.plan_types.specs.declared.index.UnitRecord.{UnitRecord}
 use Rattle.plan_types.specs.declared.range.Spec.TheVariants.{V3_0}
 use Rattle.flatten.specs.Demands.{demands_of}
@@ -52,14 +53,17 @@ of_base = record {
   entries = record { instance = instance_of false (Installed base []); body = Installed base [] } ∷ [];
 }
 
+abbrev source : Source
+source = record { description = main; flat = demands_of linux main; exposed = exposed linux main }
+
 abbrev of_main : Package
 of_main = record {
   name = codes "main";
   local = true;
   extra = false;
   entries = record {
-    instance = instance_of true (Source main (demands_of linux main) (exposed linux main));
-    body = Source main (demands_of linux main) (exposed linux main);
+    instance = instance_of true (SourceBody source);
+    body = SourceBody source;
   } ∷ [];
 }
 

@@ -22,7 +22,7 @@ use Rattle.plan_components.specs.Wanted.{places}
 abbrev pub flags_by : Selection → Qual → ℕ → Option Body → List FlagSet
 flags_by selection q p None = []
 flags_by selection q p (Some (Installed record_of needs)) = []
-flags_by selection q p (Some (Source d flats exposed)) = chosen_flags selection q p d
+flags_by selection q p (Some (Source source)) = chosen_flags selection q p source.description
 
 -- the same for the instance that is chosen under a qualifier
 abbrev pub flags_at : Selection → Qual → ℕ → List FlagSet
@@ -32,7 +32,7 @@ flags_at selection q p = flags_by selection q p (body_at selection q p)
 abbrev pub components_by : Option Body → List Component
 components_by None = []
 components_by (Some (Installed record_of needs)) = []
-components_by (Some (Source d flats exposed)) = d.components
+components_by (Some (Source source)) = source.description.components
 
 -- the same for the instance that is chosen under a qualifier
 abbrev pub components_at : Selection → Qual → ℕ → List Component

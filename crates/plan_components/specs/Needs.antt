@@ -36,7 +36,7 @@ means dep_kind.Setup dep component = list_any (is_lib component) dep.libs
 abbrev pub meant_pieces : Dep → Option Body → List Piece
 meant_pieces dep None = []
 meant_pieces dep (Some (Installed record_of needs)) = Whole ∷ []
-meant_pieces dep (Some (Source d flats exposed)) = as_pieces d.custom (places (means dep.kind dep) d.components)
+meant_pieces dep (Some (Source source)) = as_pieces source.description.custom (places (means dep.kind dep) source.description.components)
 
 -- the qualifier of a dependency's package: for the own package the node's, for another the one where it is chosen
 abbrev pub qual_of_dep : Node → Dep → ℕ → Qual
@@ -106,7 +106,7 @@ source_needs selection node d = piece_needs selection node (chosen_flags selecti
 abbrev pub needs_by : Selection → Node → Option Body → List Need
 needs_by selection node None = []
 needs_by selection node (Some (Installed record_of needs)) = map (unit_need selection node) needs
-needs_by selection node (Some (Source d flats exposed)) = source_needs selection node d
+needs_by selection node (Some (Source source)) = source_needs selection node source.description
 
 -- the needs of a node
 abbrev pub needs_of : Selection → Node → List Need

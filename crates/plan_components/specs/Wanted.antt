@@ -76,7 +76,7 @@ source_pieces selection local p d =
 abbrev pub first_pieces : Selection → Bool → ℕ → Option Body → List Piece
 first_pieces selection local p None = []
 first_pieces selection local p (Some (Installed record_of needs)) = Whole ∷ []
-first_pieces selection local p (Some (Source d flats exposed)) = source_pieces selection local p d
+first_pieces selection local p (Some (Source source)) = source_pieces selection local p source.description
 
 -- local packages and extra ones have first nodes
 abbrev pub has_first_nodes : Package → Bool

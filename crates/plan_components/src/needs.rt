@@ -44,8 +44,8 @@ pub(crate) fn needs_of(
     match chosen.body(node.qual, node.package) {
         None => Ok(List::new(alloc)),
         Some(Body::Installed { needs, .. }) => unit_needs(alloc, chosen, node, needs.as_slice()),
-        Some(Body::Source { description, .. }) => {
-            source_needs(alloc, chosen, last, node, description)
+        Some(Body::Source(source)) => {
+            source_needs(alloc, chosen, last, node, &source.description)
         }
     }
 }
@@ -359,11 +359,11 @@ fn meant_pieces(
     match chosen.body(qual, package) {
         None => Ok(List::new(alloc)),
         Some(Body::Installed { .. }) => only_whole(alloc),
-        Some(Body::Source { description, .. }) => {
-            let components = description.components.as_slice();
+        Some(Body::Source(source)) => {
+            let components = source.description.components.as_slice();
             let own = known.is_of(qual, package);
             let places = meant_places(alloc, known, own, dep, components)?;
-            as_pieces(alloc, description.custom, places.as_slice())
+            as_pieces(alloc, source.description.custom, places.as_slice())
         }
     }
 }

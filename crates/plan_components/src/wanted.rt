@@ -81,8 +81,8 @@ fn first_pieces(
     match chosen.body(Qual::Top, package) {
         None => Ok(List::new(alloc)),
         Some(Body::Installed { .. }) => only_whole(alloc),
-        Some(Body::Source { description, .. }) => {
-            source_pieces(alloc, chosen, local, package, description)
+        Some(Body::Source(source)) => {
+            source_pieces(alloc, chosen, local, package, &source.description)
         }
     }
 }

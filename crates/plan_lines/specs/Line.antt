@@ -100,8 +100,8 @@ unit_line name version id needed = record {
 abbrev pub line_by : Selection → Node → Needed → Option Body → Option PlanNode
 line_by selection node needed None = None
 line_by selection node needed (Some (Installed record_of needs)) = Some (unit_line record_of.name record_of.version record_of.id needed)
-line_by selection node needed (Some (Source d flats exposed)) =
-    Some (source_with_id selection node (chosen_flags selection node.qual node.«package» d) d needed)
+line_by selection node needed (Some (Source source)) =
+    Some (source_with_id selection node (chosen_flags selection node.qual node.«package» source.description) source.description needed)
 
 -- the line of a node with these needs; none without a chosen instance
 abbrev pub line_of : Selection → Node → Needed → Option PlanNode

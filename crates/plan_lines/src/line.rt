@@ -36,8 +36,8 @@ pub fn line_of(
             let line = unit_line(alloc, record_of, needed)?;
             Ok(Some(line))
         }
-        Some(Body::Source { description, .. }) => {
-            let line = source_with_id(alloc, chosen, node, description, needed)?;
+        Some(Body::Source(source)) => {
+            let line = source_with_id(alloc, chosen, node, &source.description, needed)?;
             Ok(Some(line))
         }
     }

@@ -33,7 +33,7 @@ module _ (env : Env) (project : Project) (index : Index) where
   units-there (id ∷ ids) (name ∷ names) = ap (λ b. has_unit index id name && b) (units-there ids names)
 
   sound-body : (body : Body) → IsBody env index body → IsBody env shown body
-  sound-body (Source d flat offer) h = record {
+  sound-body (Source source) h = record {
     description = h.description;
     packages = h.packages;
     none_beyond = h.none_beyond;

@@ -30,12 +30,12 @@ library_name (lib.Named name) = name
 
 -- the flags that an instance declares
 abbrev pub declared_by : Body → List FlagDecl
-declared_by (Source description flat exposed) = description.flags
+declared_by (Source source) = source.description.flags
 declared_by (Installed record_of needs) = []
 
 -- whether an instance is an installed unit
 abbrev pub is_installed : Body → Bool
-is_installed (Source description flat exposed) = false
+is_installed (Source source) = false
 is_installed (Installed record_of needs) = true
 
 -- the default for a place after the last package

@@ -33,6 +33,25 @@ pub struct Exposed {
     pub exes: List<Text>,
 }
 
+/// The description of a package, its demands on other packages, and its exposed components.
+#[derive(Debug)]
+pub struct Source {
+    pub description: Description,
+    pub flat: List<FlatDep>,
+    pub exposed: Exposed,
+}
+
+// Explicit, so that it is proved once: a derived one is expanded at each exit.
+impl Drop for Source {
+    fn drop(self) {
+        let Source {
+            description: _description,
+            flat: _flat,
+            exposed: _exposed,
+        } = self;
+    }
+}
+
 /// The record of an installed unit.
 #[derive(Debug, PartialEq, Eq, Drop)]
 pub struct UnitRecord {
@@ -64,11 +83,7 @@ pub struct Instance {
 /// The data of an instance: a description, or the record of a unit.
 #[derive(Debug, Drop)]
 pub enum Body {
-    Source {
-        description: Description,
-        flat: List<FlatDep>,
-        exposed: Exposed,
-    },
+    Source(Source),
     Installed {
         record_of: UnitRecord,
         /// For each unit of `depends`, the name of its package.
@@ -84,7 +99,7 @@ impl Body {
         ensures { result.now ≡ declared_by self.now }
     {
         match self {
-            Body::Source { description, .. } => description.flags.as_slice(),
+            Body::Source(source) => source.description.flags.as_slice(),
             Body::Installed { .. } => &[],
         }
     }
@@ -93,7 +108,7 @@ impl Body {
         ensures { result ≡ is_installed self.now }
     {
         match self {
-            Body::Source { .. } => false,
+            Body::Source(_) => false,
             Body::Installed { .. } => true,
         }
     }

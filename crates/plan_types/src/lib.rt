@@ -28,7 +28,7 @@ pub use fallible_values::{Boxed, List, NoMemory, Shared, Text};
 pub use guard::Guard;
 pub use index::{
     Body, Entry, Exposed, FlatDep, Index, Instance, Literal, Origin, Package, PartName, Places,
-    Skipped, UnitRecord, Warning,
+    Skipped, Source, UnitRecord, Warning,
 };
 pub use limit::Limit;
 pub use name::{is_component_name, is_flag_name, is_package_name};

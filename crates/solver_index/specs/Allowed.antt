@@ -27,12 +27,12 @@ is_lib (Named name) (Named other) = same_text name other
 
 -- a source instance has the libraries that it exposes, an installed unit its main library alone
 abbrev pub has_lib : Body → LibName → Bool
-has_lib (Source description flat exposed) lib = list_any (is_lib lib) exposed.libs
+has_lib (Source source) lib = list_any (is_lib lib) source.exposed.libs
 has_lib (Installed record_of needs) lib = is_lib lib Main
 
 -- a source instance has the executables that it exposes, an installed unit none
 abbrev pub has_exe : Body → Name → Bool
-has_exe (Source description flat exposed) exe = list_any (same_text exe) exposed.exes
+has_exe (Source source) exe = list_any (same_text exe) source.exposed.exes
 has_exe (Installed record_of needs) exe = false
 
 -- an instance of an allowed version, which has every named library

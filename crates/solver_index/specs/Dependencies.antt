@@ -79,7 +79,7 @@ source_dependencies packages names allows d flats = record {
 
 -- what an instance with this body depends on
 abbrev pub body_dependencies : List Package → NameTable → (Dep → Version → Bool) → Body → Dependencies
-body_dependencies packages names allows (Source d flats exposed) = source_dependencies packages names allows d flats
+body_dependencies packages names allows (Source source) = source_dependencies packages names allows source.description source.flat
 body_dependencies packages names allows (Installed record_of needs) = record {
   flags = [];
   deps = [];

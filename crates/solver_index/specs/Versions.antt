@@ -19,7 +19,7 @@ deps_have_versions deps = list_all (λ dep. has_versions dep.range) deps
 
 -- for the ranges of an instance
 abbrev pub body_has_versions : Body → Bool
-body_has_versions (Source d flats exposed) = flats_have_versions flats && deps_have_versions d.setup
+body_has_versions (Source source) = flats_have_versions source.flat && deps_have_versions source.description.setup
 body_has_versions (Installed record_of needs) = true
 
 -- for an instance and its ranges

@@ -59,7 +59,7 @@ fn is_source(body: &Body) -> bool
     ensures { result ≡ not (is_installed body.now) }
 {
     match body {
-        Body::Source { .. } => true,
+        Body::Source(_) => true,
         Body::Installed { .. } => false,
     }
 }

@@ -89,7 +89,7 @@ fn has_lib(body: &Body, lib: &LibName) -> bool
     ensures { result ≡ has_lib body.now lib.now }
 {
     match body {
-        Body::Source { exposed, .. } => is_among(lib, exposed.libs.as_slice()),
+        Body::Source(source) => is_among(lib, source.exposed.libs.as_slice()),
         Body::Installed { .. } => is_lib(lib, &LibName::Main),
     }
 }
@@ -115,7 +115,7 @@ fn has_exe(body: &Body, exe: &Text) -> bool
     ensures { result ≡ has_exe body.now exe.now }
 {
     match body {
-        Body::Source { exposed, .. } => is_named(exe, exposed.exes.as_slice()),
+        Body::Source(source) => is_named(exe, source.exposed.exes.as_slice()),
         Body::Installed { .. } => false,
     }
 }

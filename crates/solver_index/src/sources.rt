@@ -205,11 +205,9 @@ impl<'a> Sources<'a> {
         ensures { IfOk result (λ made. made ≡ body_in self.now owner.now body.now) }
     {
         match body {
-            Body::Source {
-                description,
-                flat,
-                ..
-            } => self.of_source(alloc, owner, description, flat.as_slice()),
+            Body::Source(source) => {
+                self.of_source(alloc, owner, &source.description, source.flat.as_slice())
+            }
             Body::Installed { record_of, needs } => {
                 let needs = self.needs(alloc, record_of.depends.as_slice(), needs.as_slice())?;
                 Ok(of_unit(alloc, needs))

@@ -16,12 +16,10 @@ returns-in-Source c =
     let names = c.args.self.now.names in
     let owner = c.args.owner in
     let allows = allowed_versions project c.args.entry.now.instance in
-    let d = c.in-Source.description in
-    let flats = c.in-Source.flat in
     let dependencies = c.requires ∙ ap (body_dependencies packages names allows) c.in-Source.is in
     let same =
-    ap (λ (a : Dependencies). source_rows packages project names owner a d) dependencies
-    ∙ source-is packages project names owner allows d flats c.in-Source.exposed
+    ap (λ (a : Dependencies). source_rows packages project names owner a c.in-Source.source.description) dependencies
+    ∙ source-is packages project names owner allows c.in-Source.source
     ∙ sym (ap (body_demands packages project names owner allows) c.in-Source.is) in
     subst (λ (ds : List Demand). IfOk c.source_demands.result (λ found. found ≡ ds)) same c.source_demands.ensures
 
