@@ -1,5 +1,6 @@
 //! The layout of Cabal files. `read_elements` takes the bytes of a file and returns its tree of fields and sections, by
 //! lines, indents and braces, or its first fault. The tree is unique, and so is the fault; no file has both.
+//! `into_text` and `elements_of` do the same in two steps, for a caller that keeps the text.
 //! `print_elements` returns the canonical text of a tree. The text parses as the same tree, except for line numbers,
 //! unless a value or args end with a carriage return.
 #![tactic(auto)]
@@ -15,4 +16,4 @@ mod read;
 pub use laws::{one_fault, one_tree, round_trip, tree_or_fault};
 pub use lines::trim;
 pub use print::print_elements;
-pub use read::read_elements;
+pub use read::{as_text, elements_of, into_text, read_elements};

@@ -1,6 +1,6 @@
 // The tree of a file.
 ghost use Rattle.std.specs.Prelude.{◌≡◌, ◌+◌, ◌≤◌, ◌<◌, ◌==◌, ℕ, List, take, length, count_by, IfOk, IfErr, MatchResult};
-ghost use Rattle.std.specs.Str.{IsUtf8};
+ghost use Rattle.std.specs.Str.Lossy.{utf8_valid_len};
 ghost use Rattle.plan_types.specs.declared.element.Element.{Element};
 ghost use Rattle.plan_types.specs.declared.refusal.Cause.{Cause};
 ghost use Rattle.cabal_lexer.specs.Fault.{IsTree, IsFault, bad_line};
@@ -8,7 +8,7 @@ ghost use Rattle.plan_types.specs.Refusal.{RefusesAt};
 
 use crate::elements::read_items;
 use crate::lines::kept_lines;
-use plan_types::{Cause, Element, Fault, List};
+use plan_types::{Cause, Element, Fault, List, Text};
 use std::alloc::Global;
 use std::str;
 
@@ -35,26 +35,56 @@ fn read_tree(alloc: Global, bytes: &[u8]) -> Result<List<Element>, Fault>
     ensures tree { IfOk result (λ items. IsTree bytes.now items) }
     ensures fault { IfErr result (RefusesAt (IsFault bytes.now)) }
 {
-    let text = decoded(bytes)?;
+    let text = as_text(bytes)?;
+    elements_of(alloc, text)
+}
+
+/// The tree of a text that is known to be UTF-8, or its first fault.
+pub fn elements_of(alloc: Global, text: &str) -> Result<List<Element>, Fault>
+    requires { length text.now ≤ 1048576 }
+    ensures tree { IfOk result (λ items. IsTree text.now items) }
+    ensures fault { IfErr result (RefusesAt (IsFault text.now)) }
+{
     let lines = kept_lines(alloc, text)?;
     let (items, _) = read_items(alloc, lines.as_slice(), 0, 1, false)?;
     Ok(items)
 }
 
-fn decoded(bytes: &[u8]) -> Result<&str, Fault>
+/// The bytes of a file as a text, or the fault `NotUtf8`.
+pub fn as_text(bytes: &[u8]) -> Result<&str, Fault>
     requires { length bytes.now ≤ 1048576 }
-    ensures { MatchResult result (λ text. (text.now ≡ bytes.now) × IsUtf8 bytes.now)
-        (RefusesAt (IsFault bytes.now)) }
+    ensures { MatchResult result (λ text. text.now ≡ bytes.now) (RefusesAt (IsFault bytes.now)) }
 {
     match str::from_utf8(bytes) {
         Ok(text) => Ok(text),
+        Err(error) => Err(not_utf8(bytes, error.valid_up_to())),
+    }
+}
+
+/// The same of bytes that are owned. They become the text without a copy.
+pub fn into_text(bytes: List<u8>) -> Result<Text, Fault>
+    requires { length bytes ≤ 1048576 }
+    ensures { MatchResult result (λ text. text ≡ bytes) (RefusesAt (IsFault bytes)) }
+{
+    match String::from_utf8(bytes.into_vec()) {
+        Ok(text) => Ok(Text::from_string(text)),
         Err(error) => {
-            let (front, _) = bytes.split_at(error.valid_up_to());
-            Err(Fault::At {
-                line: newlines(front) + 1,
-                cause: Cause::NotUtf8,
-            })
+            let valid = error.utf8_error().valid_up_to();
+            Err(not_utf8(error.as_bytes(), valid))
         }
+    }
+}
+
+// The fault of bytes of which only so many begin a valid text.
+fn not_utf8(bytes: &[u8], valid: usize) -> Fault
+    requires few { length bytes.now ≤ 1048576 }
+    requires valid { valid ≡ utf8_valid_len bytes.now }
+    ensures { result ≡ Fault.At (bad_line bytes.now) Cause.NotUtf8 }
+{
+    let (front, _) = bytes.split_at(valid);
+    Fault::At {
+        line: newlines(front) + 1,
+        cause: Cause::NotUtf8,
     }
 }
 
