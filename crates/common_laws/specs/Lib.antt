@@ -4,3 +4,5 @@ pub mod Each
 pub mod Passing
 pub mod Graphs
 pub mod Decidability
+pub mod StableSorts
+pub mod SortedInsertion

@@ -16,8 +16,8 @@ use Rattle.plan_types.specs.declared.index.Package.{Package}
 use Rattle.common_laws.specs.Small.{second-equal}
 use Rattle.qualified_goals.specs.Names.{AreInGoalOrder, Name, class_of, package_cmp, package_names}
 use Rattle.qualified_goals.proofs.NameNumbers.{package_cmp_total}
-use Rattle.package_declarations.proofs.StableSorts.{put_all}
-use Rattle.every_reading.proofs.SortedInsertion.{all_move, all_sorted, all_stable}
+use Rattle.common_laws.specs.StableSorts.{put_all}
+use Rattle.common_laws.specs.SortedInsertion.{all_move, all_sorted, all_stable}
 use Rattle.index_assembly.specs.Index.{is_package_below}
 use Rattle.index_assembly.specs.Order.{in_order}
 use Rattle.index_assembly.proofs.StableSorts.{package-order, sorted-is}

@@ -9,11 +9,11 @@ use Rattle.std.proofs.lemmas.List.MinMax.{ranks_by}
 use Rattle.plan_types.specs.Packages.{package_at}
 use Rattle.plan_types.specs.declared.index.Package.{Package}
 use Rattle.plan_types.specs.declared.project.Project.{Project}
-use Rattle.package_declarations.proofs.StableSorts.{put_all}
+use Rattle.common_laws.specs.StableSorts.{put_all}
 use Rattle.preferences.specs.Places.{place_cmp}
 use Rattle.preferences.proofs.TotalOrders.{place-total}
 use Rattle.solver_index.specs.Orders.{AreOrders, IsOrderOf, instances_of, policy_of, preferred_of}
-use Rattle.every_reading.proofs.SortedInsertion.{all_move, all_sorted}
+use Rattle.common_laws.specs.SortedInsertion.{all_move, all_sorted}
 
 module _ (project : Project) where
   some_order : (package_is : Package) → (values : List ℕ) × IsOrderOf project package_is values

@@ -2,8 +2,8 @@
 use Rattle.std.proofs.Common.{Bool, List, Option, map, refl, is_lt}
 use Rattle.plan_nodes.specs.declared.node.PlanNode.{PlanNode}
 use Rattle.plan_nodes.specs.Once.{each_line_once}
-use Rattle.package_declarations.proofs.StableSorts.{put_all}
-use Rattle.every_reading.proofs.SortedInsertion.{all_move, all_sorted}
+use Rattle.common_laws.specs.StableSorts.{put_all}
+use Rattle.common_laws.specs.SortedInsertion.{all_move, all_sorted}
 use Rattle.plan_components.specs.declared.reached.Reached.{Reached}
 use Rattle.plan_components.specs.Chosen.{Selection}
 use Rattle.plan_components.specs.Plan.{AreReached}

@@ -12,14 +12,14 @@ use Rattle.package_declarations.specs.Cycles.{needs}
 use Rattle.package_declarations.specs.Declarations.{own_name}
 use Rattle.package_declarations.specs.Flags.{AreFlags, declared_flags, name_before}
 use Rattle.package_declarations.proofs.FlagOrder.{name-order}
-use Rattle.package_declarations.proofs.StableSorts.{put_all}
+use Rattle.common_laws.specs.StableSorts.{put_all}
 use Rattle.description.specs.Description.{IsFaultlessOutcome, IsFileOutcome, Describes, OfVersion, cabal_version, description, missing, unless_circular, version_of}
 use Rattle.description.specs.FaultOrder.{first}
 use Rattle.description.specs.Faults.{faults}
 use Rattle.description.specs.declared.fault_order.At.{At}
 use Rattle.every_reading.proofs.CycleAnswers.{some_first}
 use Rattle.every_reading.proofs.Sections.{some_file}
-use Rattle.every_reading.proofs.SortedInsertion.{all_move, all_sorted, all_stable}
+use Rattle.common_laws.specs.SortedInsertion.{all_move, all_sorted, all_stable}
 
 some_flags : (sections : List Section) → (flags : List FlagDecl) × AreFlags sections flags
 some_flags sections =

@@ -8,7 +8,6 @@ pub mod Readings
 pub mod Trees
 pub mod RecordAnswers
 pub mod Sections
-pub mod SortedInsertion
 pub mod CycleAnswers
 pub mod Descriptions
 pub mod SourceAnswers

@@ -9,7 +9,7 @@ use Rattle.plan_types.specs.declared.index.Package.{Package}
 use Rattle.plan_types.specs.declared.index.Skipped.{Skipped}
 use Rattle.qualified_goals.specs.Names.{class_of}
 use Rattle.qualified_goals.proofs.NameNumbers.{package_cmp_total}
-use Rattle.package_declarations.proofs.StableSorts as stable
+use Rattle.common_laws.specs.StableSorts as stable
 use Rattle.index_assembly.specs.Order.{put, in_order}
 use Rattle.index_assembly.specs.Entries.{is_unit_below, is_version_below}
 use Rattle.index_assembly.specs.Index.{is_package_below, is_path_below}

@@ -9,7 +9,7 @@ use Rattle.std.proofs.lemmas.List.Sorted.{ranks_by}
 use Rattle.plan_types.specs.declared.description.FlagDecl.{FlagDecl}
 use Rattle.section_syntax.specs.declared.part.Section.{Section}
 use Rattle.package_declarations.specs.Flags.{AreFlags, declared_flags, name_before}
-use Rattle.package_declarations.proofs.StableSorts.{put, put_all, stable-is}
+use Rattle.common_laws.specs.StableSorts.{put, put_all, stable-is}
 
 -- inserts a flag before the first whose name isn't less
 abbrev pub insert : FlagDecl → List FlagDecl → List FlagDecl

@@ -9,4 +9,3 @@ pub mod FirstPlaces
 pub mod PushLoops
 pub mod SetupParts
 pub mod ShownComponents
-pub mod StableSorts
