@@ -8,5 +8,5 @@ returns-else-condition_holds c =
     let selection = selection_of c.args.chosen.now in
     let flags = c.args.owner.now.known.now.flags in
     let needs = c.args.needs.now in
-    let false = sym (c.condition_holds.ensures ∙ ap (condition_holds selection.env flags) c.get.ensures) ∙ c.if-condition_holds.false in
+    let false = sym (c.condition_holds.ensures ∙ ap (condition_holds selection.env flags) c.buildable.ensures) ∙ c.if-condition_holds.false in
     sym (append-nil needs) ∙ ap (λ l. needs ++ l) (sym (no_needs selection flags c.args.dependent.now.own c.args.dependent.now.component.now c.args.owner.now.node false))
