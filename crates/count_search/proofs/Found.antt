@@ -1,7 +1,8 @@
 -- Records found by the derived equality of variables.
-use Rattle.std.proofs.Common.{◌≡◌, List, [], ◌∷◌, true, false, cond, Option, Some, None, ◌∙◌, sym, ap, refl, inl, inr, ◌⊎◌}
+use Rattle.std.proofs.Common.{◌≡◌, ℕ, List, [], ◌∷◌, true, false, cond, Option, Some, None, ◌∙◌, sym, ap, refl, inl, inr, ◌⊎◌}
 use Rattle.std.specs.Option.{option_map}
-use Rattle.std.specs.Map.{lookup}
+use Rattle.std.specs.List.{slice_get}
+use Rattle.std.specs.Map.{lookup, lookup_key}
 use Rattle.std.specs.Ordering.{is_eq}
 use Rattle.qualified_goals.specs.declared.variable.Var.{Var}
 use Rattle.qualified_goals.specs.Variable.{same_var}
@@ -10,7 +11,7 @@ use Rattle.qualified_goals.specs.contracts.variable.VarPartialEq.TheImpl.{eq-val
 use Rattle.qualified_goals.specs.contracts.variable.VarOrd.TheImpl.Laws.{matches_eq-law}
 use Rattle.choice_problem.proofs.PartialMaps.{derived}
 use Rattle.count_search.specs.declared.records.Met.{Met}
-use Rattle.count_search.specs.Records.{record_in}
+use Rattle.count_search.specs.Records.{record_in, IsPlaced}
 
 eq-same : (v w : Var) → eq-value.it v w ≡ same_var v w
 eq-same v w = matches_eq-law v w ∙ ap is_eq (derived v w)
@@ -26,6 +27,22 @@ pub changed : (old new : List (Var × Met)) (v w : Var) (o : Option Met) → loo
 changed old new v w o h =
     sym (found new w) ∙ h ∙ ap (λ b. cond b o (lookup (eq-value.it w) old)) (eq-same v w)
     ∙ ap (λ r. cond (same_var v w) o r) (found old w)
+
+pub equal : (v w : Var) → eq-value.it v w ≡ true → v ≡ w
+equal v w h = same_var-is v w (sym (eq-same v w) ∙ h)
+
+-- a key that is found is the variable
+pub key-of : (records : List (Var × Met)) (v key : Var) → lookup_key (eq-value.it v) records ≡ Some key → v ≡ key
+key-of [] v key h = absurd (cc h)
+key-of (e ∷ records) v key h =
+    elim (eq-value.it v e.0) as (λ b. eq-value.it v e.0 ≡ b → cond b (Some e.0) (lookup_key (eq-value.it v) records) ≡ Some key → v ≡ key) [
+      | true ↦ λ k same. let is : e.0 ≡ key = cc same in equal v e.0 k ∙ is
+      | false ↦ λ k more. key-of records v key more
+    ] refl h
+
+pub placed : (records : List (Var × Met)) (place : ℕ) (key v : Var) (met : Met) → key ≡ v → slice_get records place ≡ Some (key, met) → record_in records v ≡ Some met
+    → IsPlaced records v place met
+placed records place key v met same there first = record { there = there ∙ ap (λ w. Some (w, met)) same; first = first }
 
 -- two variables are the same or not
 pub one-or-other : (v w : Var) → (v ≡ w) ⊎ (same_var v w ≡ false)

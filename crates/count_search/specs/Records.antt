@@ -1,5 +1,6 @@
 -- Records of variables.
-use Rattle.std.specs.Prelude.{◌+◌, min, Bool, List, Option}
+use Rattle.std.specs.Prelude.{◌≡◌, ℕ, ◌+◌, min, Bool, List, Option, Some}
+use Rattle.std.specs.List.{slice_get}
 use Rattle.std.specs.Map.{lookup}
 use Rattle.qualified_goals.specs.declared.variable.Var.{Var}
 use Rattle.qualified_goals.specs.Variable.{same_var}
@@ -21,3 +22,8 @@ marked chosen met = record { sets = met.sets; chosen = chosen }
 -- the record of a variable that was in no set
 abbrev pub without_sets : Bool → Met
 without_sets chosen = record { sets = 0; chosen = chosen }
+
+-- the record of a variable, and its place
+pub record IsPlaced (records : List (Var × Met)) (v : Var) (place : ℕ) (met : Met) : Type 0 where
+  pub there : slice_get records place ≡ Some (v, met)
+  pub first : record_in records v ≡ Some met

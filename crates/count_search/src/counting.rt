@@ -12,10 +12,9 @@ ghost use Rattle.validation.specs.View.{Represents};
 ghost use Rattle.count_search.specs.Ranks.{rank_cmp, AreBetween, AreScored, raised, raised_all};
 
 use crate::ranks::{Ranks, rank_of};
-use crate::records::{Records, count_one, mark, record_for, record_of};
+use crate::records::Records;
 use backjump::Guide;
 use choice_problem::{ConflictSet, Trail, Var};
-use indexmap::IndexMap;
 use plan_types::NoMemory;
 use std::alloc::Global;
 use validation::State;
@@ -41,10 +40,10 @@ impl Drop for Counting {
 impl Counting {
     /// A guide without conflict sets.
     pub fn new(alloc: Global) -> Counting
-        ensures { AreScored result.records.entries result.ranks (spec.score []) [] }
+        ensures { AreScored result.records result.ranks (spec.score []) [] }
     {
         Counting {
-            records: IndexMap::new(alloc),
+            records: Records::new(alloc),
             ranks: Ranks::new(alloc),
         }
     }
@@ -56,13 +55,13 @@ impl Counting {
     // The first step for one variable.
     fn prepare(&mut self, v: Var, trail: &Trail) -> Result<(), NoMemory>
         ensures ok { OnOk result ((scores next : Var → ℕ) → next v ≡ scores v
-            → AreBetween self.old.records.entries self.old.ranks scores next trail.now
-            → AreBetween self.new.records.entries self.new.ranks scores (raised v next) trail.now) }
+            → AreBetween self.old.records self.old.ranks scores next trail.now
+            → AreBetween self.new.records self.new.ranks scores (raised v next) trail.now) }
         ensures err { OnErr result ((scores next : Var → ℕ)
-            → AreBetween self.old.records.entries self.old.ranks scores next trail.now
-            → AreBetween self.new.records.entries self.new.ranks scores next trail.now) }
+            → AreBetween self.old.records self.old.ranks scores next trail.now
+            → AreBetween self.new.records self.new.ranks scores next trail.now) }
     {
-        let met = record_for(&mut self.records, v, trail)?;
+        let met = self.records.get_or_add(v, trail)?;
         if met.chosen {
             return Ok(());
         }
@@ -72,10 +71,10 @@ impl Counting {
     // Undoes the first step for one variable.
     fn withdraw(&mut self, v: Var)
         ensures { (scores next : Var → ℕ) (trail : List Choice) → next v ≡ scores v
-            → AreBetween self.old.records.entries self.old.ranks scores (raised v next) trail
-            → AreBetween self.new.records.entries self.new.ranks scores next trail }
+            → AreBetween self.old.records self.old.ranks scores (raised v next) trail
+            → AreBetween self.new.records self.new.ranks scores next trail }
     {
-        let Some(met) = record_of(&self.records, v) else {
+        let Some(met) = self.records.get(v) else {
             return;
         };
         if met.sets == u64::MAX {
@@ -87,10 +86,10 @@ impl Counting {
     // The second step for one variable.
     fn raise(&mut self, v: Var)
         ensures { (scores next : Var → ℕ) (trail : List Choice) → next v ≡ raised v scores v
-            → AreBetween self.old.records.entries self.old.ranks scores next trail
-            → AreBetween self.new.records.entries self.new.ranks (raised v scores) next trail }
+            → AreBetween self.old.records self.old.ranks scores next trail
+            → AreBetween self.new.records self.new.ranks (raised v scores) next trail }
     {
-        let Some(met) = count_one(&mut self.records, v) else {
+        let Some(met) = self.records.count_one(v) else {
             return;
         };
         // A chosen variable has no rank.
@@ -109,11 +108,11 @@ impl Counting {
     fn prepare_all(&mut self, vars: &[Var], trail: &Trail) -> Result<(), NoMemory>
         requires { IsTrue (is_rising vars.now) }
         ensures ok { OnOk result ((scores : Var → ℕ)
-            → AreScored self.old.records.entries self.old.ranks scores trail.now
-            → AreBetween self.new.records.entries self.new.ranks scores (raised_all vars.now scores) trail.now) }
+            → AreScored self.old.records self.old.ranks scores trail.now
+            → AreBetween self.new.records self.new.ranks scores (raised_all vars.now scores) trail.now) }
         ensures err { OnErr result ((scores : Var → ℕ)
-            → AreScored self.old.records.entries self.old.ranks scores trail.now
-            → AreScored self.new.records.entries self.new.ranks scores trail.now) }
+            → AreScored self.old.records self.old.ranks scores trail.now
+            → AreScored self.new.records self.new.ranks scores trail.now) }
     {
         for place in 0..vars.len() {
             let v = vars[place];
@@ -130,9 +129,9 @@ impl Counting {
         requires rising { IsTrue (is_rising vars.now) }
         requires within { count ≤ length vars.now }
         ensures { (scores : Var → ℕ) (trail : List Choice)
-            → AreBetween self.old.records.entries self.old.ranks scores (raised_all (take count vars.now) scores)
+            → AreBetween self.old.records self.old.ranks scores (raised_all (take count vars.now) scores)
             trail
-            → AreScored self.new.records.entries self.new.ranks scores trail }
+            → AreScored self.new.records self.new.ranks scores trail }
     {
         let mut left = count;
         while left > 0 {
@@ -145,8 +144,8 @@ impl Counting {
     fn raise_all(&mut self, vars: &[Var])
         requires { IsTrue (is_rising vars.now) }
         ensures { (scores : Var → ℕ) (trail : List Choice)
-            → AreBetween self.old.records.entries self.old.ranks scores (raised_all vars.now scores) trail
-            → AreScored self.new.records.entries self.new.ranks (raised_all vars.now scores) trail }
+            → AreBetween self.old.records self.old.ranks scores (raised_all vars.now scores) trail
+            → AreScored self.new.records self.new.ranks (raised_all vars.now scores) trail }
     {
         for place in 0..vars.len() {
             self.raise(vars[place]);
@@ -157,7 +156,7 @@ impl Counting {
 impl Guide for Counting {
     ghost picks = { spec.most_met };
 
-    ghost recalls = { λ guide met trail. AreScored guide.records.entries guide.ranks (spec.score met) trail };
+    ghost recalls = { λ guide met trail. AreScored guide.records guide.ranks (spec.score met) trail };
 
     fn pick(&self, state: &State) -> Option<Var> {
         match self.ranks.first_open(state) {
@@ -174,22 +173,22 @@ impl Guide for Counting {
     }
 
     fn chosen(&mut self, v: Var) {
-        let Some(met) = mark(&mut self.records, v, true) else {
+        let Some(met) = self.records.mark(v, true) else {
             return;
         };
         self.ranks.remove(rank_of(met.sets, v));
     }
 
     fn taken_back(&mut self, v: Var) -> Result<(), NoMemory> {
-        let Some(met) = record_of(&self.records, v) else {
+        let Some(met) = self.records.get(v) else {
             return Ok(());
         };
         if met.sets == 0 {
-            let _ = mark(&mut self.records, v, false);
+            let _ = self.records.mark(v, false);
             return Ok(());
         }
         self.ranks.add(rank_of(met.sets, v))?;
-        let _ = mark(&mut self.records, v, false);
+        let _ = self.records.mark(v, false);
         Ok(())
     }
 

@@ -13,8 +13,8 @@ returns-in_err-met-clause-err c =
     let s = c.args.self.now in
     let ranks = s.ranks in
     on-err c.from_residual.result
-    ((scores next : Var → ℕ) → AreBetween s.records.entries ranks scores next c.args.trail.now
-    → AreBetween c.record_for.new.records.entries ranks scores next c.args.trail.now)
+    ((scores next : Var → ℕ) → AreBetween s.records ranks scores next c.args.trail.now
+    → AreBetween c.get_or_add.new.self ranks scores next c.args.trail.now)
     (λ scores next are. subst (λ t. AreBetween t ranks scores next c.args.trail.now) (sym c.in_err-met.ensures.err) are)
 
 pub returns-then-met-clause-ok : goal.returns-then-met-clause-ok
@@ -23,10 +23,10 @@ returns-then-met-clause-ok c scores next same are =
     let trail = c.args.trail.now in
     let met = c.in_ok-met.met in
     let there = c.in_ok-met.ensures.met in
-    prepared-chosen s.records.entries s.ranks scores next trail are c.args.v met
-    (record-sets s.records.entries c.args.v (is_some (value_in trail c.args.v)) met there)
-    (record-chosen s.records.entries c.args.v trail met are.noted there)
-    c.record_for.new.records.entries c.in_ok-met.ensures.is c.if-met.true
+    prepared-chosen s.records s.ranks scores next trail are c.args.v met
+    (record-sets s.records c.args.v (is_some (value_in trail c.args.v)) met there)
+    (record-chosen s.records c.args.v trail met are.noted there)
+    c.get_or_add.new.self c.in_ok-met.ensures.is c.if-met.true
 
 pub returns-clause-ok : goal.returns-clause-ok
 returns-clause-ok c =
@@ -36,10 +36,10 @@ returns-clause-ok c =
     let there = c.in_ok-met.ensures.met in
     on_ok_weaker c.add.result
     (λ put scores next same are.
-    prepared-free s.records.entries s.ranks scores next trail are c.args.v met
-    (record-sets s.records.entries c.args.v (is_some (value_in trail c.args.v)) met there)
-    (record-chosen s.records.entries c.args.v trail met are.noted there)
-    c.record_for.new.records.entries c.in_ok-met.ensures.is
+    prepared-free s.records s.ranks scores next trail are c.args.v met
+    (record-sets s.records c.args.v (is_some (value_in trail c.args.v)) met there)
+    (record-chosen s.records c.args.v trail met are.noted there)
+    c.get_or_add.new.self c.in_ok-met.ensures.is
     c.add.new.self c.saturating_add.result c.if-met.false same c.saturating_add.ensures
     (λ r. put r ∙ ap (λ x. same_rank x r || has_rank s.ranks r) c.rank_of.ensures))
     c.add.ensures.ok
@@ -52,8 +52,8 @@ returns-clause-err c =
     let there = c.in_ok-met.ensures.met in
     on_err_weaker c.add.result
     (λ kept scores next are.
-    entered s.records.entries s.ranks scores next trail are c.args.v met
-    (record-sets s.records.entries c.args.v (is_some (value_in trail c.args.v)) met there)
-    (record-chosen s.records.entries c.args.v trail met are.noted there)
-    c.record_for.new.records.entries c.in_ok-met.ensures.is c.add.new.self kept)
+    entered s.records s.ranks scores next trail are c.args.v met
+    (record-sets s.records c.args.v (is_some (value_in trail c.args.v)) met there)
+    (record-chosen s.records c.args.v trail met are.noted there)
+    c.get_or_add.new.self c.in_ok-met.ensures.is c.add.new.self kept)
     c.add.ensures.err

@@ -6,5 +6,5 @@ use Rattle.count_search.proofs.counting.Counting.prepare_all.Given as goal
 
 abbrev pub invariant-loop-place : goal.invariant-loop-place
 invariant-loop-place l =
-    (scores : Var → ℕ) → AreScored l.initial.self.records.entries l.initial.self.ranks scores l.trail
-    → AreBetween l.self.records.entries l.self.ranks scores (raised_all (take l.place l.vars) scores) l.trail
+    (scores : Var → ℕ) → AreScored l.initial.self.records l.initial.self.ranks scores l.trail
+    → AreBetween l.self.records l.self.ranks scores (raised_all (take l.place l.vars) scores) l.trail

@@ -7,5 +7,5 @@ use Rattle.count_search.proofs.counting.Counting.raise_all.Given as goal
 
 abbrev pub invariant-loop-place : goal.invariant-loop-place
 invariant-loop-place l =
-    (scores : Var → ℕ) (trail : List Choice) → AreBetween l.initial.self.records.entries l.initial.self.ranks scores (raised_all l.vars scores) trail
-    → AreBetween l.self.records.entries l.self.ranks (raised_all (take l.place l.vars) scores) (raised_all l.vars scores) trail
+    (scores : Var → ℕ) (trail : List Choice) → AreBetween l.initial.self.records l.initial.self.ranks scores (raised_all l.vars scores) trail
+    → AreBetween l.self.records l.self.ranks (raised_all (take l.place l.vars) scores) (raised_all l.vars scores) trail

@@ -15,7 +15,7 @@ loop-left-preserved c =
       within = omega (arith, c.loop-left.invariant.within);
       back = λ scores trail are.
           c.withdraw.ensures scores (raised_all (take i vars) scores) trail (not-yet vars c.requires.rising scores i _ within)
-          (subst (λ f. AreBetween old.records.entries old.ranks scores f trail)
+          (subst (λ f. AreBetween old.records old.ranks scores f trail)
           (ap (λ n. raised_all (take n vars) scores) (sym on) ∙ next-one vars c.requires.rising scores i _ within)
           (c.loop-left.invariant.back scores trail are));
     }
@@ -24,5 +24,5 @@ pub returns : goal.returns
 returns c scores trail are =
     let self = c.loop-left.self in
     let none : c.loop-left.left ≡ 0 = omega (arith, c.loop-left-test.false) in
-    none-between self.records.entries self.ranks scores trail
-    (subst (λ n. AreBetween self.records.entries self.ranks scores (raised_all (take n c.args.vars.now) scores) trail) none (c.loop-left.invariant.back scores trail are))
+    none-between self.records self.ranks scores trail
+    (subst (λ n. AreBetween self.records self.ranks scores (raised_all (take n c.args.vars.now) scores) trail) none (c.loop-left.invariant.back scores trail are))

@@ -8,8 +8,8 @@ use Rattle.count_search.proofs.counting.Counting.withdraw_first.Given as goal
 abbrev pub invariant-loop-left : goal.invariant-loop-left
 invariant-loop-left l = record {
   within : l.left ≤ l.count;
-  back : (scores : Var → ℕ) (trail : List Choice) → AreBetween l.initial.self.records.entries l.initial.self.ranks scores (raised_all (take l.count l.vars) scores) trail
-      → AreBetween l.self.records.entries l.self.ranks scores (raised_all (take l.left l.vars) scores) trail;
+  back : (scores : Var → ℕ) (trail : List Choice) → AreBetween l.initial.self.records l.initial.self.ranks scores (raised_all (take l.count l.vars) scores) trail
+      → AreBetween l.self.records l.self.ranks scores (raised_all (take l.left l.vars) scores) trail;
 }
 
 abbrev pub decreases-loop-left : goal.decreases-loop-left

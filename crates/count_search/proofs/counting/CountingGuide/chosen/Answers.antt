@@ -11,15 +11,15 @@ use Rattle.count_search.proofs.counting.CountingGuide.chosen.Goals as goal
 
 pub returns-in_default : goal.returns-in_default
 returns-in_default c met trail choice e are =
-    let records = c.args.self.now.records.entries in
+    let records = c.args.self.now.records in
     let none : record_in records c.args.v ≡ None = sym c.mark.ensures.was ∙ c.in_default.is in
-    scored-new records c.args.self.now.ranks (score met) trail are choice (ap (record_in records) e ∙ none) c.mark.new.records.entries
+    scored-new records c.args.self.now.ranks (score met) trail are choice (ap (record_in records) e ∙ none) c.mark.new.self
     (λ u. c.mark.ensures.is u ∙ sym (absent records (marked true) c.args.v u none))
 
 pub returns : goal.returns
 returns c met trail choice e are =
     let s = c.args.self.now in
-    let records = s.records.entries in
+    let records = s.records in
     let v = c.args.v in
     let own = c.in-Some.met in
     let there : record_in records v ≡ Some own = sym c.mark.ensures.was ∙ c.in-Some.is in
@@ -27,5 +27,5 @@ returns c met trail choice e are =
     scored-chosen records s.ranks (score met) trail are v c.remove.new.self
     (λ r. c.remove.ensures r
     ∙ ap (λ x. not (same_rank x r) && has_rank s.ranks r) (c.rank_of.ensures ∙ ap (λ n. rank_of n v) (sets ∙ are.counted v)))
-    choice e c.mark.new.records.entries (marked true own) sets refl
+    choice e c.mark.new.self (marked true own) sets refl
     (λ u. c.mark.ensures.is u ∙ ap (λ o. cond (same_var v u) (option_map (marked true) o) (record_in records u)) there)

@@ -12,9 +12,9 @@ pub returns-clause-ok : goal.returns-clause-ok
 returns-clause-ok c met are =
     let set = c.args.set.now in
     let new = c.raise_all.new.self in
-    scored-alike new.records.entries new.ranks (raised_all set (score met)) (score (set ∷ met)) c.args.trail.now
+    scored-alike new.records new.ranks (raised_all set (score met)) (score (set ∷ met)) c.args.trail.now
     (λ u. raised-set set met u (subst (λ l. is_rising l ≡ true) c.vars-vars.ensures.set c.vars-vars.ensures.rising))
-    (subst (λ l. AreScored new.records.entries new.ranks (raised_all l (score met)) c.args.trail.now) c.vars-vars.ensures.set
+    (subst (λ l. AreScored new.records new.ranks (raised_all l (score met)) c.args.trail.now) c.vars-vars.ensures.set
     (c.raise_all.ensures (score met) c.args.trail.now (c.in_ok-prepare_all.ensures.ok (score met) are)))
 
 pub returns-in_err-prepare_all-clause-err : goal.returns-in_err-prepare_all-clause-err
@@ -22,5 +22,5 @@ returns-in_err-prepare_all-clause-err c =
     let old = c.args.self.now in
     let new = c.prepare_all.new.self in
     on-err c.from_residual.result
-    ((met : List (List Var)) → AreScored old.records.entries old.ranks (score met) c.args.trail.now → AreScored new.records.entries new.ranks (score met) c.args.trail.now)
+    ((met : List (List Var)) → AreScored old.records old.ranks (score met) c.args.trail.now → AreScored new.records new.ranks (score met) c.args.trail.now)
     (λ met are. c.in_err-prepare_all.ensures.err (score met) are)

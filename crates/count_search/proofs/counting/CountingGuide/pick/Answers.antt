@@ -9,7 +9,7 @@ pub returns-in-Some : goal.returns-in-Some
 returns-in-Some c p met lawful stands are =
     let trail = c.args.state.now.trail in
     let ranks = c.args.self.now.ranks in
-    sym (picked-ranked p met trail c.args.self.now.records.entries ranks are c.in-Some.rank
+    sym (picked-ranked p met trail c.args.self.now.records ranks are c.in-Some.rank
     (subst (IsFirst (is_open p trail) (has_rank ranks)) c.in-Some.is (c.first_open.ensures p lawful stands)))
 
 pub returns-in-None : goal.returns-in-None
@@ -17,5 +17,5 @@ returns-in-None c p met lawful stands are =
     let trail = c.args.state.now.trail in
     let ranks = c.args.self.now.ranks in
     c.least.ensures p lawful stands
-    ∙ sym (picked-least p met trail c.args.self.now.records.entries ranks are
+    ∙ sym (picked-least p met trail c.args.self.now.records ranks are
     (subst (IsFirst (is_open p trail) (has_rank ranks)) c.in-None.is (c.first_open.ensures p lawful stands)))

@@ -30,8 +30,8 @@ module _ (records after : List (Var × Met)) (v w : Var) (own : Met) (e : w ≡ 
 
 pub returns-in_default-clause-ok : goal.returns-in_default-clause-ok
 returns-in_default-clause-ok c met front choice e new are =
-    let records = c.args.self.now.records.entries in
-    let none : record_in records choice.var ≡ None = ap (record_in records) e ∙ sym c.record_of.ensures ∙ c.in_default.is in
+    let records = c.args.self.now.records in
+    let none : record_in records choice.var ≡ None = ap (record_in records) e ∙ sym c.get.ensures ∙ c.in_default.is in
     scored-still records c.args.self.now.ranks (score met) front choice (ap (value_in front) e ∙ new) are
     (sym (are.counted choice.var) ∙ met-of records choice.var None none) records (λ u. refl) (noted-before records front choice none are.noted)
 
@@ -39,33 +39,33 @@ pub returns-then-met-eq0-clause-ok : goal.returns-then-met-eq0-clause-ok
 returns-then-met-eq0-clause-ok c met front choice e new are =
     let s = c.args.self.now in
     let own = c.in-Some.met in
-    let after = c.mark.new.records.entries in
-    let there : record_in s.records.entries c.args.v ≡ Some own = sym c.record_of.ensures ∙ c.in-Some.is in
+    let after = c.mark.new.self in
+    let there : record_in s.records c.args.v ≡ Some own = sym c.get.ensures ∙ c.in-Some.is in
     let free = ap (value_in front) e ∙ new in
-    scored-still s.records.entries s.ranks (score met) front choice free are
-    (sym (are.counted choice.var) ∙ sym (own-sets s.records.entries after c.args.v choice.var own e there c.mark.ensures.is) ∙ c.if-met-eq0.true)
-    after (same-sets s.records.entries after c.args.v choice.var own e there c.mark.ensures.is)
-    (noted-back s.records.entries s.ranks (score met) front choice free are after (marked false own) refl
-    (own-set s.records.entries after c.args.v choice.var own e there c.mark.ensures.is))
+    scored-still s.records s.ranks (score met) front choice free are
+    (sym (are.counted choice.var) ∙ sym (own-sets s.records after c.args.v choice.var own e there c.mark.ensures.is) ∙ c.if-met-eq0.true)
+    after (same-sets s.records after c.args.v choice.var own e there c.mark.ensures.is)
+    (noted-back s.records s.ranks (score met) front choice free are after (marked false own) refl
+    (own-set s.records after c.args.v choice.var own e there c.mark.ensures.is))
 
 pub returns-clause-ok : goal.returns-clause-ok
 returns-clause-ok c met front choice e new are =
     let s = c.args.self.now in
     let own = c.in-Some.met in
-    let after = c.mark-2.new.records.entries in
-    let there : record_in s.records.entries c.args.v ≡ Some own = sym c.record_of.ensures ∙ c.in-Some.is in
+    let after = c.mark-2.new.self in
+    let there : record_in s.records c.args.v ≡ Some own = sym c.get.ensures ∙ c.in-Some.is in
     let free = ap (value_in front) e ∙ new in
-    scored-back s.records.entries s.ranks (score met) front choice free are own.sets c.add.new.self
-    (own-sets s.records.entries after c.args.v choice.var own e there c.mark-2.ensures.is ∙ are.counted choice.var) (positive own.sets c.if-met-eq0.false)
+    scored-back s.records s.ranks (score met) front choice free are own.sets c.add.new.self
+    (own-sets s.records after c.args.v choice.var own e there c.mark-2.ensures.is ∙ are.counted choice.var) (positive own.sets c.if-met-eq0.false)
     (λ r. c.in_ok-add.ensures.ok r ∙ ap (λ x. same_rank x r || has_rank s.ranks r) (c.rank_of.ensures ∙ ap (rank_of own.sets) (sym e)))
-    after (same-sets s.records.entries after c.args.v choice.var own e there c.mark-2.ensures.is)
-    (noted-back s.records.entries s.ranks (score met) front choice free are after (marked false own) refl
-    (own-set s.records.entries after c.args.v choice.var own e there c.mark-2.ensures.is))
+    after (same-sets s.records after c.args.v choice.var own e there c.mark-2.ensures.is)
+    (noted-back s.records s.ranks (score met) front choice free are after (marked false own) refl
+    (own-set s.records after c.args.v choice.var own e there c.mark-2.ensures.is))
 
 pub returns-in_err-add-clause-err : goal.returns-in_err-add-clause-err
 returns-in_err-add-clause-err c =
     let s = c.args.self.now in
     on-err c.from_residual.result
-    ((trail : List Choice) (met : List (List Var)) → AreScored s.records.entries s.ranks (score met) trail
-    → AreScored s.records.entries c.add.new.self (score met) trail)
-    (λ trail met are. scored-ranks s.records.entries s.ranks c.add.new.self (score met) trail c.in_err-add.ensures.err are)
+    ((trail : List Choice) (met : List (List Var)) → AreScored s.records s.ranks (score met) trail
+    → AreScored s.records c.add.new.self (score met) trail)
+    (λ trail met are. scored-ranks s.records s.ranks c.add.new.self (score met) trail c.in_err-add.ensures.err are)
