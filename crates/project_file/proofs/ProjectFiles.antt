@@ -1,18 +1,22 @@
 -- Shared: the outcome of project files with one more file.
-use Rattle.std.proofs.Common.{◌≡◌, ℕ, ◌+◌, ◌<◌, ◌≤◌, length, List, [], ◌∷◌, ◌++◌, get_or, take, drop, refl, sym, subst, ap, ◌∙◌, append_assoc}
+use Rattle.std.proofs.Common.{◌≡◌, inl, ℕ, ◌+◌, ◌<◌, ◌≤◌, length, List, [], ◌∷◌, ◌++◌, get_or, take, drop, refl, sym, subst, ap, ◌∙◌, append_assoc}
 use Rattle.std.proofs.lemmas.List.{append-nil, take-append-drop, take_all}
 use Rattle.std.specs.Prelude.{Result, Ok, Err}
 use Rattle.common_laws.specs.Lists.{take_at}
 use Rattle.plan_types.specs.declared.condition.Env.{Env}
 use Rattle.plan_types.specs.declared.project.Project.{Project}
+use Rattle.cabal_lexer.specs.Fault.{IsFault}
+use Rattle.plan_types.specs.declared.refusal.Fault.{Fault}
+use Rattle.plan_types.specs.declared.refusal.Fault.TheVariants as fault
 use Rattle.plan_types.specs.declared.refusal.Halt.{Halt}
 use Rattle.plan_types.specs.declared.refusal.Halt.TheVariants as halt
 use Rattle.plan_types.specs.declared.refusal.Refusal.{Refusal}
 use Rattle.project_file.specs.Project.{Placed, placed_all, project_from}
-use Rattle.project_file.specs.Read.{AllRead, FileReads, GoesOn, IsProject, in_front, project_of}
+use Rattle.project_file.specs.Read.{AllRead, FileReads, GoesOn, IsProject, IsWithFile, halt_of, in_front, project_of}
+use Rattle.project_file.specs.Texts.{Reads, fault_at}
 use Rattle.project_file.specs.declared.part.ProjectPart.{ProjectPart}
 use Rattle.project_file.specs.declared.read.ProjectText.{ProjectText}
-use Rattle.plan_types.specs.Refusal.{Settles}
+use Rattle.plan_types.specs.Refusal.{RefusesAt, Settles}
 
 in_front-twice : (front parts : List Placed) (more : Result (List Placed) Refusal) → in_front front (in_front parts more) ≡ in_front (front ++ parts) more
 in_front-twice front parts (Ok more) = ap Ok (sym (append_assoc front parts more))
@@ -111,6 +115,29 @@ module _ (env : Env) where
     one-halted halt.NoMemory says reads = tt
     one-halted halt.Failed says reads = reads
     one-halted (halt.Refused r) says reads = stopped-with r says.0 says.1 says.2 reads
+
+-- ---- a fault in a file
+
+-- a fault of the layout is the fault of a file
+pub layout-fault : (env : Env) (bytes : List ℕ) (f : Fault) → RefusesAt (IsFault bytes) f → RefusesAt (λ line cause. Reads env bytes (Err (fault_at line cause))) f
+layout-fault env bytes fault.NoMemory h = tt
+layout-fault env bytes (fault.At line cause) h = inl (record { at = fault_at line cause; fault = h; comes = refl })
+
+pub file-halted : (env : Env) (file : ProjectText) (f : Fault) → RefusesAt (λ line cause. Reads env file.bytes (Err (fault_at line cause))) f
+    → Settles {A = List ProjectPart} (FileReads env file) (Err (halt_of file.path f))
+file-halted env file fault.NoMemory h = tt
+file-halted env file (fault.At line cause) h = (Err (fault_at line cause), h, refl)
+
+module _ (env : Env) (before : List ProjectText) (file : ProjectText) where
+  -- files that end with a text that isn't valid UTF-8
+  pub undecoded : (project : Project) (f : Fault) → IsProject env before (Ok project) → RefusesAt (IsFault file.bytes) f
+      → Settles {A = Project} (IsProject env (before ++ file ∷ [])) (Err (halt_of file.path f))
+  undecoded project f says h = one-halted env before file project (halt_of file.path f) says (file-halted env file f (layout-fault env file.bytes f h))
+
+  pub with-halted : (h : Halt) → Settles {A = Project} (IsProject env (before ++ file ∷ [])) (Err h) → Settles {A = Project × List ℕ} (IsWithFile env before file) (Err h)
+  with-halted halt.NoMemory says = tt
+  with-halted halt.Failed says = says
+  with-halted (halt.Refused r) says = says
 
 -- ---- one more place
 

@@ -2,9 +2,13 @@
 use Rattle.std.specs.Prelude.{◌≡◌, ◌≤◌, ℕ, List, [], ◌∷◌, ◌++◌, length, Result, Ok, Err}
 use Rattle.plan_types.specs.declared.condition.Env.{Env}
 use Rattle.plan_types.specs.declared.project.Project.{Project}
+use Rattle.plan_types.specs.declared.refusal.Fault.{Fault}
+use Rattle.plan_types.specs.declared.refusal.Fault.TheVariants as fault
+use Rattle.plan_types.specs.declared.refusal.Halt.{Halt}
+use Rattle.plan_types.specs.declared.refusal.Halt.TheVariants as halt
 use Rattle.plan_types.specs.declared.refusal.Refusal.{Refusal}
 use Rattle.project_file.specs.Project.{Placed, placed_all, project_from}
-use Rattle.project_file.specs.Texts.{Reads}
+use Rattle.project_file.specs.Texts.{Reads, fault_at}
 use Rattle.project_file.specs.declared.part.ProjectPart.{ProjectPart}
 use Rattle.project_file.specs.declared.read.ProjectText.{ProjectText}
 use Rattle.project_file.specs.declared.text.FaultLine.{FaultLine}
@@ -16,6 +20,11 @@ IsWithin text = length text.bytes ≤ 1048576
 -- the refusal of a fault in a file
 abbrev pub refusal_at : List ℕ → FaultLine → Refusal
 refusal_at path at = record { path = path; line = at.line; cause = at.cause; detail = [] }
+
+-- the halt of a fault in a file
+abbrev pub halt_of : List ℕ → Fault → Halt
+halt_of path fault.NoMemory = halt.NoMemory
+halt_of path (fault.At line cause) = halt.Refused (refusal_at path (fault_at line cause))
 
 -- the parts of a file, or the refusal of its fault
 abbrev pub or_refusal : List ℕ → Result (List ProjectPart) FaultLine → Result (List ProjectPart) Refusal
@@ -50,3 +59,8 @@ project_of (Err refusal) = Err refusal
 -- the project of the files, or the first refusal
 abbrev pub IsProject : Env → List ProjectText → Result Project Refusal → Type 0
 IsProject env texts outcome = (read : Result (List Placed) Refusal) × AllRead env texts read × (outcome ≡ project_of read)
+
+-- the project of some files with one more file after them, and the text of that file; or the first refusal
+abbrev pub IsWithFile : Env → List ProjectText → ProjectText → Result (Project × List ℕ) Refusal → Type 0
+IsWithFile env before file (Ok made) = IsProject env (before ++ file ∷ []) (Ok made.0) × (made.1 ≡ file.bytes)
+IsWithFile env before file (Err refusal) = IsProject env (before ++ file ∷ []) (Err refusal)

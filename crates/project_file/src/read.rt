@@ -3,14 +3,15 @@ ghost use Rattle.std.specs.Prelude.{◌≡◌, ◌≤◌, ◌++◌, ◌∷◌, t
 ghost use Rattle.std.specs.List.{list_all, AllByRecursion};
 ghost use Rattle.plan_types.specs.Name.{is_package_name};
 ghost use Rattle.plan_types.specs.declared.condition.Env.{Env};
-ghost use Rattle.project_file.specs.Read.{FileReads, IsProject, IsWithin};
+ghost use Rattle.project_file.specs.Read.{FileReads, IsProject, IsWithFile, IsWithin, halt_of};
 ghost use Rattle.project_file.specs.declared.read.ProjectText.{ProjectText};
 ghost use Rattle.plan_types.specs.Refusal.{Settles};
 
 use crate::part::ProjectPart;
 use crate::project::{nothing, take_file};
 use crate::text::read_text;
-use plan_types::{Cause, Env, Fault, Halt, List, NoMemory, Project, Refusal, Text};
+use cabal_lexer::{as_text, into_text};
+use plan_types::{Env, Fault, Halt, List, NoMemory, Project, Refusal, Text};
 use std::alloc::Global;
 
 /// A project file.
@@ -32,7 +33,7 @@ pub fn read_project(alloc: Global, texts: &List<ProjectText>, env: &Env) -> Resu
 {
     let mut project = empty_project(alloc);
     for text in texts.as_slice() {
-        project = with_project_file(alloc, project, text, env)?;
+        project = with_borrowed(alloc, project, text, env)?;
     }
     Ok(project)
 }
@@ -44,37 +45,80 @@ pub fn empty_project(alloc: Global) -> Project
     nothing(alloc)
 }
 
-/// The project of some files with one more file after them, or the refusal of that file.
+/// The project of some files with one more file after them, and the text of that file. Or the refusal of the file.
+/// Its bytes become the text without a copy.
 pub fn with_project_file(
     alloc: Global,
-    mut project: Project,
-    text: &ProjectText,
+    project: Project,
+    path: &Text,
+    bytes: List<u8>,
     env: &Env,
-) -> Result<Project, Halt>
-    requires { IsWithin text.now }
+) -> Result<(Project, Text), Halt>
+    requires { length bytes ≤ 1048576 }
     ensures { (before : List ProjectText) → IsProject env.now before (Ok project)
-        → Settles (IsProject env.now (before ++ text.now ∷ [])) result }
+        → Settles (IsWithFile env.now before (record { path = path.now; bytes = bytes })) result }
 {
-    let parts = read_file(alloc, env, text)?;
-    take_file(&mut project, &text.path, parts)?;
-    Ok(project)
-}
-
-fn read_file(alloc: Global, env: &Env, text: &ProjectText) -> Result<List<ProjectPart>, Halt>
-    requires { IsWithin text.now }
-    ensures { Settles (FileReads env.now text.now) result }
-{
-    match read_text(alloc, env, text.bytes.as_slice()) {
-        Ok(parts) => Ok(parts),
-        Err(Fault::NoMemory) => Err(Halt::NoMemory),
-        Err(Fault::At { line, cause }) => Err(refused(alloc, &text.path, line, cause)?),
+    match into_text(bytes) {
+        Ok(text) => {
+            let project = with_text(alloc, project, path, text.as_str(), env)?;
+            Ok((project, text))
+        }
+        Err(fault) => Err(halt_of(alloc, path, fault)?),
     }
 }
 
-fn refused(alloc: Global, path: &Text, line: u32, cause: Cause) -> Result<Halt, NoMemory>
-    ensures { IfOk result (λ halt. halt ≡ Halt.Refused
-        (record { path = path.now; line = line; cause = cause; detail = [] })) }
+fn with_borrowed(
+    alloc: Global,
+    project: Project,
+    file: &ProjectText,
+    env: &Env,
+) -> Result<Project, Halt>
+    requires { IsWithin file.now }
+    ensures { (before : List ProjectText) → IsProject env.now before (Ok project)
+        → Settles (IsProject env.now (before ++ file.now ∷ [])) result }
 {
-    let path = path.copy()?;
-    Ok(Halt::Refused(Refusal::at(alloc, path, line, cause)))
+    match as_text(file.bytes.as_slice()) {
+        Ok(text) => with_text(alloc, project, &file.path, text, env),
+        Err(fault) => Err(halt_of(alloc, &file.path, fault)?),
+    }
+}
+
+// The project with one more file of this text.
+fn with_text(
+    alloc: Global,
+    mut project: Project,
+    path: &Text,
+    text: &str,
+    env: &Env,
+) -> Result<Project, Halt>
+    requires { length text.now ≤ 1048576 }
+    ensures { (before : List ProjectText) → IsProject env.now before (Ok project)
+        → Settles (IsProject env.now (before ++ record { path = path.now; bytes = text.now } ∷ [])) result }
+{
+    let parts = read_file(alloc, env, path, text)?;
+    take_file(&mut project, path, parts)?;
+    Ok(project)
+}
+
+fn read_file(alloc: Global, env: &Env, path: &Text, text: &str) -> Result<List<ProjectPart>, Halt>
+    requires { length text.now ≤ 1048576 }
+    ensures { Settles (FileReads env.now (record { path = path.now; bytes = text.now })) result }
+{
+    match read_text(alloc, env, text) {
+        Ok(parts) => Ok(parts),
+        Err(fault) => Err(halt_of(alloc, path, fault)?),
+    }
+}
+
+// The halt for a fault in the file at this path.
+fn halt_of(alloc: Global, path: &Text, fault: Fault) -> Result<Halt, NoMemory>
+    ensures { IfOk result (λ halt. halt ≡ halt_of path.now fault) }
+{
+    match fault {
+        Fault::NoMemory => Ok(Halt::NoMemory),
+        Fault::At { line, cause } => {
+            let path = path.copy()?;
+            Ok(Halt::Refused(Refusal::at(alloc, path, line, cause)))
+        }
+    }
 }

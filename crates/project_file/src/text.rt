@@ -5,7 +5,7 @@ ghost use Rattle.project_file.specs.Texts.{Reads, bad_cause, fault_at, first_fau
 
 use crate::part::{ProjectPart, ProjectSaid};
 use crate::parts::read_parts;
-use cabal_lexer::read_elements;
+use cabal_lexer::elements_of;
 use plan_types::{Cause, Env, Fault, List};
 use std::alloc::Global;
 
@@ -17,13 +17,13 @@ pub(crate) struct FaultLine {
 }
 
 /// The parts of a text, or its first fault.
-pub(crate) fn read_text(alloc: Global, env: &Env, bytes: &[u8]) -> Result<List<ProjectPart>, Fault>
-    requires { length bytes.now ≤ 1048576 }
-    ensures parts { IfOk result (λ parts. Reads env.now bytes.now (Ok parts)) }
+pub(crate) fn read_text(alloc: Global, env: &Env, text: &str) -> Result<List<ProjectPart>, Fault>
+    requires { length text.now ≤ 1048576 }
+    ensures parts { IfOk result (λ parts. Reads env.now text.now (Ok parts)) }
     ensures fault { IfErr result (RefusesAt
-        (λ line cause. Reads env.now bytes.now (Err (fault_at line cause)))) }
+        (λ line cause. Reads env.now text.now (Err (fault_at line cause)))) }
 {
-    let items = read_elements(alloc, bytes)?;
+    let items = elements_of(alloc, text)?;
     let parts = read_parts(alloc, env, items.as_slice())?;
     match first_fault(parts.as_slice()) {
         None => Ok(parts),
