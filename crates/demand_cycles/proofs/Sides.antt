@@ -73,6 +73,12 @@ has-led edges goals keys place v part told h =
       ]
     ] refl told
 
+-- a search that found a variable, or is finished, decides whether edges lead from it to the goal
+pub found-leads : (edges : List Edge) (end : Var) (keys : List Var) (place : ℕ) (v : Var) → IsPartReached edges (end ∷ []) keys place → nat_lt place (length keys) && not (has keys v) ≡ false
+    → has keys v ≡ leads_to_any edges (end ∷ []) v
+found-leads edges end keys place v part told =
+    both_ways (has keys v) (leads_to_any edges (end ∷ []) v) (part.sound v) (has-led edges (end ∷ []) keys place v part told)
+
 -- where two searches aren't apart, whether they have met decides whether edges lead from one to the other
 pub met-leads : (edges : List Edge) (from end : Var) (ahead back : List Var) (i j : ℕ) → IsPartReached (reversed edges) (from ∷ []) ahead i → IsPartReached edges (end ∷ []) back j
     → (nat_lt i (length ahead) && not (has ahead end)) && (nat_lt j (length back) && not (has back from)) ≡ false

@@ -13,7 +13,7 @@ ghost use Rattle.demand_cycles.specs.Side.{IsSide, reversed};
 use crate::ring::{Ring, any_closes};
 use crate::side::{Side, are_apart, have_met, is_near, is_seeking};
 use crate::var_set::VarSet;
-use choice_problem::{ConflictSet, Demand, Var, is_same, push_named};
+use choice_problem::{ConflictSet, Demand, Var, push_named};
 use plan_types::{List, NoMemory};
 use std::alloc::Global;
 
@@ -75,11 +75,14 @@ fn new_owners<G: Graph>(alloc: Global, graph: &G, before: usize) -> Result<Vec<V
         ≡ owners_on_cycles (edges_of (G.demands graph.now)) (drop before (G.demands graph.now))) }
 {
     let mut owners = Vec::new(alloc);
-    let mut last = None;
     let count = graph.count();
+    if count <= before {
+        return Ok(owners);
+    }
+    let mut back = Side::new(alloc, graph.demand(before).target);
     for place in before..count {
         let demand = graph.demand(place);
-        if is_on_cycle(alloc, graph, &mut last, demand)? {
+        if is_on_cycle(alloc, graph, &mut back, demand)? {
             push_owner(&mut owners, demand)?;
         }
     }
@@ -155,13 +158,13 @@ fn owner_of(demand: &Demand) -> Option<Var>
 fn is_on_cycle<G: Graph>(
     alloc: Global,
     graph: &G,
-    last: &mut Option<Side>,
+    back: &mut Side,
     demand: &Demand,
 ) -> Result<bool, NoMemory>
     requires listed { Contains (G.demands graph.now) demand.now }
-    requires last { IfSome last.old (IsSide (edges_of (G.demands graph.now))) }
+    requires back { IsSide (edges_of (G.demands graph.now)) back.old }
     ensures lies { IfOk result (λ lies. lies ≡ lies_on_cycle (edges_of (G.demands graph.now)) demand.now) }
-    ensures last { IfSome last.new (IsSide (edges_of (G.demands graph.now))) }
+    ensures back { OnOk result (IsSide (edges_of (G.demands graph.now)) back.new) }
 {
     let Some(owner) = owner_of(demand) else {
         return Ok(false);
@@ -169,20 +172,9 @@ fn is_on_cycle<G: Graph>(
     if !graph.is_chosen(demand.target) {
         return Ok(false);
     }
-    let mut back = side_of(alloc, last.take(), owner);
-    let lies = is_led_to(alloc, graph, &mut back, demand.target)?;
-    *last = Some(back);
+    back.begin(owner);
+    let lies = is_led_to(alloc, graph, back, demand.target)?;
     Ok(lies)
-}
-
-fn side_of(alloc: Global, last: Option<Side>, end: Var) -> Side
-    ensures end { result.end ≡ end }
-    ensures side { (edges : List Edge) → IfSome last (IsSide edges) → IsSide edges result }
-{
-    match last {
-        Some(side) if is_same(side.end, end) => side,
-        _ => Side::new(alloc, end),
-    }
 }
 
 // Whether edges lead from a variable to the end of a side. The side grows until this is known. Behind what is near,
@@ -199,6 +191,25 @@ fn is_led_to<G: Graph>(
     ensures back { OnOk result (IsSide (edges_of (G.demands graph.now)) back.new) }
 {
     search_near(alloc, graph, back, from)?;
+    if !is_seeking(back, from) {
+        return Ok(back.holds(from));
+    }
+    let is_led = search_both(alloc, graph, back, from)?;
+    Ok(is_led)
+}
+
+// The same, from both ends in turn.
+fn search_both<G: Graph>(
+    alloc: Global,
+    graph: &G,
+    back: &mut Side,
+    from: Var,
+) -> Result<bool, NoMemory>
+    requires { IsSide (edges_of (G.demands graph.now)) back.old }
+    ensures is_led { IfOk result (λ is_led.
+        is_led ≡ leads_to_any (edges_of (G.demands graph.now)) (back.old.end ∷ []) from) }
+    ensures back { OnOk result (IsSide (edges_of (G.demands graph.now)) back.new) }
+{
     let mut ahead = Side::new(alloc, from);
     while are_apart(&ahead, back) {
         let targets = graph.targets(alloc, ahead.next())?;

@@ -6,7 +6,7 @@ ghost use Rattle.demand_cycles.specs.Side.{IsSide, are_apart, is_seeking};
 ghost use Rattle.demand_cycles.specs.VarSet.{with_keys};
 
 use crate::var_set::VarSet;
-use choice_problem::Var;
+use choice_problem::{Var, is_same};
 use plan_types::NoMemory;
 use std::alloc::Global;
 
@@ -41,6 +41,19 @@ impl Side {
             found: VarSet::of(alloc, end),
             place: 0,
         }
+    }
+
+    /// Starts again from another end. A search from the same end goes on.
+    pub(crate) fn begin(&mut self, end: Var)
+        ensures end { self.new.end ≡ end }
+        ensures side { (edges : List Edge) → IsSide edges self.old → IsSide edges self.new }
+    {
+        if is_same(self.end, end) {
+            return;
+        }
+        self.end = end;
+        self.found.begin(end);
+        self.place = 0;
     }
 
     pub(crate) fn holds(&self, v: Var) -> bool

@@ -54,6 +54,15 @@ impl VarSet {
         }
     }
 
+    /// Keeps one variable alone, and the memory.
+    pub(crate) fn begin(&mut self, first: Var)
+        ensures { self.new ≡ first ∷ [] }
+    {
+        self.first = first;
+        self.others.truncate(0);
+        self.index = None;
+    }
+
     pub(crate) fn len(&self) -> usize
         ensures { result ≡ length self.now }
     {

@@ -9,8 +9,11 @@ pub returns-then-not-is_chosen-clause-lies : goal.returns-then-not-is_chosen-cla
 returns-then-not-is_chosen-clause-lies g c =
     sym (lies-ended (g.G.Graph.demands c.args.graph.now) c.args.demand.now c.requires.listed (λ w h. false≢true (sym c.if-not-is_chosen.true ∙ c.is_chosen.ensures w h)))
 
+pub is_led_to-requires : goal.is_led_to-requires
+is_led_to-requires g c = c.begin.ensures.side (edges_of (g.G.Graph.demands c.args.graph.now)) c.requires.back
+
 pub returns-clause-lies : goal.returns-clause-lies
 returns-clause-lies g c =
     let edges = edges_of (g.G.Graph.demands c.args.graph.now) in
-    c.in_ok-lies.ensures.is_led ∙ ap (λ v. leads_to_any edges (v ∷ []) c.args.demand.now.target) c.side_of-back.ensures.end
+    c.in_ok-lies.ensures.is_led ∙ ap (λ v. leads_to_any edges (v ∷ []) c.args.demand.now.target) c.begin.ensures.end
     ∙ lies-led edges c.args.demand.now c.in-Some.owner (sym c.in-Some.ensures)
