@@ -39,7 +39,7 @@ none-from (Some x) h = absurd (h x refl)
 
 -- places
 
-place-is : (front ds all : List Demand) → all ≡ front ++ ds → (v : Var) (k : ℕ) → Contains (places_from (length front) v ds) k → (k < length all) × ((demand_at all k).target ≡ v)
+pub place-is : (front ds all : List Demand) → all ≡ front ++ ds → (v : Var) (k : ℕ) → Contains (places_from (length front) v ds) k → (k < length all) × ((demand_at all k).target ≡ v)
 place-is front [] all e v k h = absurd (contains-none k h)
 place-is front (d ∷ ds) all e v k h =
     let rest = places_from (suc (length front)) v ds in
@@ -104,7 +104,7 @@ filter-within test wider h (c ∷ cs) =
           filter-within test wider h cs ∙ ap (λ b. cond b (c ∷ filter test cs) (filter test cs)) (sym out)
     ] refl
 
-twin-of : (owner c : Choice) → are_twins owner c ≡ true → is_of_package owner.var.«package» c ≡ true
+pub twin-of : (owner c : Choice) → are_twins owner c ≡ true → is_of_package owner.var.«package» c ≡ true
 twin-of owner c h =
     let twins = twins-are owner c h in
     and_from (is_whole c.var.part) (nat_eq c.var.«package» owner.var.«package») (ap (λ (v : Var). is_whole v.part) (sym twins.moved) ∙ twins.whole)

@@ -1,34 +1,38 @@
 -- The demands that may disagree after a choice.
-use Rattle.std.proofs.Common.{◌≡◌, ℕ, zero, suc, ◌+◌, ◌-◌, ◌<◌, ◌≤◌, arith, length, true, false, cond, List, [], ◌∷◌, ◌++◌, take, Some, None, refl, sym, ap, ◌∙◌, subst, inl, inr, ◌⊎◌}
+use Rattle.std.proofs.Common.{◌≡◌, ℕ, zero, suc, ◌+◌, ◌-◌, ◌<◌, ◌≤◌, arith, length, true, false, cond, List, [], ◌∷◌, ◌++◌, take, Option, Some, None, refl, sym, ap, ◌∙◌, subst, inl, inr, ◌⊎◌}
 use Rattle.std.specs.List.{Contains, slice_get}
-use Rattle.std.proofs.lemmas.Bool.{false≢true, and_parts, cases_lt}
+use Rattle.std.specs.Prelude.{nat_eq}
+use Rattle.std.proofs.lemmas.Bool.{false≢true, and_parts, and_from, cases_lt, eq-eqb, false_from_ne_true}
 use Rattle.std.proofs.lemmas.List.{take_more, length-take-le}
 use Rattle.std.proofs.lemmas.Option.{slice_get_within, get_or_from_slice_get}
 use Rattle.qualified_goals.specs.declared.variable.Var.{Var}
 use Rattle.qualified_goals.specs.Variable.{same_var}
-use Rattle.qualified_goals.specs.SameVariable.{same_var-is}
+use Rattle.qualified_goals.specs.SameVariable.{same_var-is, same_var-refl}
 use Rattle.choice_problem.specs.declared.problem.Choice.{Choice}
 use Rattle.choice_problem.specs.declared.problem.Demand.{Demand}
 use Rattle.choice_problem.specs.Assignment.{is_yes}
-use Rattle.choice_problem.specs.Conflict.{first_clash}
+use Rattle.choice_problem.specs.Conflict.{disagree, first_clash}
+use Rattle.choice_problem.specs.General.{owner_of}
 use Rattle.choice_problem.specs.Active.{asks_for}
-use Rattle.choice_problem.specs.Trail.{value_in}
-use Rattle.choice_problem.specs.Twins.{differ}
-use Rattle.common_laws.specs.Lists.{contains-head, contains-tail, contains-left, contains-right, contains-append, contains-filter}
+use Rattle.choice_problem.specs.Trail.{choice_of, value_in}
+use Rattle.choice_problem.specs.Twins.{differ, is_of_package, is_whole, under}
+use Rattle.common_laws.specs.Lists.{contains-head, contains-tail, contains-left, contains-right, contains-append, contains-cases, contains-filter, contains-none, filter-contains}
 use Rattle.choice_problem.proofs.ActiveDemands.{yes-kept}
-use Rattle.choice_problem.proofs.DemandPairs.{disagree-are, are-disagreeing, none-apart}
+use Rattle.choice_problem.proofs.DemandPairs.{agree-are, are-twins, differ-are, disagree-are, disagree-back, are-disagreeing, none-apart}
 use Rattle.choice_problem.proofs.TrailEnds.{value-push}
+use Rattle.choice_problem.proofs.TrailLemmas.{value_in-made}
 use Rattle.goal_links.proofs.NamedItems.{get-contains}
 use Rattle.demand_agreement.specs.Places.{no_demand, places_from, places_on}
 use Rattle.demand_agreement.specs.Clashes.{AreSuspects}
 use Rattle.demand_agreement.proofs.NumberBounds.{places-below}
-use Rattle.demand_agreement.proofs.Disagreements.{place-there}
+use Rattle.demand_agreement.proofs.Disagreements.{get-at, owner-chosen, place-is, place-there, twin-of}
 use Rattle.choice_stack.specs.declared.addition.Addition.{Addition}
 use Rattle.validation.specs.View.{View}
-use Rattle.validation.specs.Pending.{ArePending, place_if}
-use Rattle.choice_stack.specs.Stack.{AllBelow, is_turned, made, names, rising_from, turned}
+use Rattle.validation.specs.Pending.{ArePending, IsFirstInstance, place_if}
+use Rattle.choice_stack.specs.Stack.{AllBelow, is_first, is_owned_by, is_turned, made, names, rising_from, turned}
 use Rattle.choice_stack.proofs.DemandPlaces.{below-more, below-append}
-use Rattle.validation.proofs.Weighed.{pending-active, pending-count}
+use Rattle.choice_stack.proofs.OpenVariables.{get-right}
+use Rattle.validation.proofs.Weighed.{fresh-owned, pending-active, pending-count, pending-length}
 
 -- an item of the first of two lists
 get-left : {X : Type 0} (xs ys : List X) (i : ℕ) (x : X) → i < length xs → slice_get (xs ++ ys) i ≡ Some x → slice_get xs i ≡ Some x
@@ -45,6 +49,11 @@ rising-push n (suc count) = ap (λ l. n ∷ l) (rising-push (suc n) count ∙ ap
 pub rising-below : (n count m : ℕ) → n + count ≤ m → AllBelow m (rising_from n count)
 rising-below n zero m h = tt
 rising-below n (suc count) m h = (let less : n < m = omega (arith, h) in less, rising-below (suc n) count m (omega (arith, h)))
+
+rising-from : (n count k : ℕ) → Contains (rising_from n count) k → n ≤ k
+rising-from n zero k h = absurd (contains-none k h)
+rising-from n (suc count) k h =
+    elim (contains-cases n (rising_from (suc n) count) k h) [ inl same ↦ omega (arith, same) | inr rest ↦ omega (arith, rising-from (suc n) count k rest) ]
 
 pub rising-has : (n count k : ℕ) → n ≤ k → k < n + count → Contains (rising_from n count) k
 rising-has n zero k low high = absurd (omega (arith, low, high))
@@ -147,4 +156,86 @@ module _ (s : View) (a : Addition) (woken fresh : List Demand) (count : ℕ) (h 
                 ] refl
               ] refl
         ]
+      ]
+
+  -- the demands that would become active and aren't the choice's own
+  abbrev pub woken-ones : List ℕ
+  woken-ones = rising_from (length s.active) (length woken)
+
+  pub woken-below : AllBelow (length all) woken-ones
+  woken-below = rising-below (length s.active) (length woken) (length all) (omega (arith, pending-length s a woken fresh count h))
+
+  -- the first instance of a package is its only one
+
+  only-one : IsFirstInstance s.trail a.choice.var → (c : Choice) → Contains after c → is_of_package a.choice.var.«package» c ≡ true → same_var a.choice.var c.var ≡ false → ⊥
+  only-one first c k of other =
+      elim (contains-append s.trail (a.choice ∷ []) c k) [
+        | inl old ↦ contains-none c (subst (λ (l : List Choice). Contains l c) first.1 (filter-contains (is_of_package a.choice.var.«package») s.trail c old of))
+        | inr new ↦ elim (contains-cases a.choice [] c new) [
+          | inl same ↦ false≢true (sym other ∙ ap (λ (x : Choice). same_var a.choice.var x.var) (sym same) ∙ same_var-refl a.choice.var)
+          | inr none ↦ contains-none c none
+        ]
+      ]
+
+  differ-self : (o : Option ℕ) → differ o o ≡ true → ⊥
+  differ-self o k =
+      let values = differ-are o o k in
+      false≢true (sym values.apart ∙ eq-eqb values.first values.second (cc (values.first_is, values.second_is)))
+
+  -- no demand on it disagrees with another
+  on-first : IsFirstInstance s.trail a.choice.var → (d e : Demand) → disagree after (d, e) ≡ true → d.target ≡ a.choice.var → ⊥
+  on-first first d e agreed on =
+      let of = disagree-are after d e agreed in
+      let agree = agree-are (owner_of d.when) d.target (owner_of e.when) e.target of.must in
+      let values = differ-are (value_in after d.target) (value_in after e.target) of.values in
+      let moved : under agree.second a.choice.var ≡ e.target = ap (under agree.second) (sym on) ∙ agree.alike.moved in
+      let other : same_var a.choice.var e.target ≡ false =
+      false_from_ne_true (same_var a.choice.var e.target) (λ same.
+      let one : d.target ≡ e.target = on ∙ same_var-is a.choice.var e.target same in
+      differ-self (value_in after d.target) (ap (λ v. differ (value_in after d.target) (value_in after v)) one ∙ of.values)) in
+      let own : is_of_package a.choice.var.«package» (choice_of (under agree.second a.choice.var) values.second) ≡ true =
+      and_from (is_whole a.choice.var.part) (nat_eq a.choice.var.«package» a.choice.var.«package») first.0 (eq-eqb a.choice.var.«package» a.choice.var.«package» refl) in
+      only-one first (choice_of e.target values.second) (value_in-made after e.target values.second values.second_is)
+      (subst (λ (v : Var). is_of_package a.choice.var.«package» (choice_of v values.second) ≡ true) moved own) other
+
+  -- nor does one that it owns
+  by-first : IsFirstInstance s.trail a.choice.var → (d e : Demand) → disagree after (d, e) ≡ true → is_owned_by a.choice.var d ≡ true → is_yes (value_in after) e ≡ true → ⊥
+  by-first first d e agreed own is =
+      let of = disagree-are after d e agreed in
+      let agree = agree-are (owner_of d.when) d.target (owner_of e.when) e.target of.must in
+      let owner : agree.first.var ≡ a.choice.var = owner-is d.when a.choice.var agree.first own agree.first_is in
+      only-one first agree.second (owner-chosen after e agree.second is agree.second_is)
+      (subst (λ (v : Var). is_of_package v.«package» agree.second ≡ true) owner (twin-of agree.first agree.second (are-twins agree.first agree.second agree.alike.twins)))
+      (ap (λ v. same_var v agree.second.var) (sym owner) ∙ agree.alike.twins.other)
+    where
+      owner-is : (when : List Choice) (v : Var) (c : Choice) → is_first v when ≡ true → owner_of when ≡ Some c → c.var ≡ v
+      owner-is [] v c own is = absurd (false≢true own)
+      owner-is (x ∷ others) v c own is = let same : x ≡ c = cc is in ap (λ (y : Choice). y.var) (sym same) ∙ same_var-is x.var v own
+
+  own-at : (i : ℕ) (d : Demand) → slice_get all i ≡ Some d → length s.active + length woken ≤ i → Contains fresh d
+  own-at i d at high =
+      let k = i - (length s.active + length woken) in
+      let split : i ≡ length s.active + (length woken + k) = omega (arith, high) in
+      get-contains fresh k d
+      (sym (ap (λ (ds : List Demand). slice_get ds i) (pending-active s a woken fresh count h) ∙ ap (slice_get (s.active ++ (woken ++ fresh))) split
+      ∙ get-right s.active (woken ++ fresh) (length woken + k) ∙ get-right woken fresh k) ∙ at)
+
+  woken-at : IsFirstInstance s.trail a.choice.var → (i : ℕ) (d e : Demand) → slice_get all i ≡ Some d → Contains all e → disagree after (d, e) ≡ true → Contains suspected i
+      → Contains woken-ones i
+  woken-at first i d e at in' agreed k =
+      elim (contains-append (places_on a.choice.var s.active) (rising_from (length s.active) (count - length s.active)) i k) [
+        | inl on ↦
+            let place = place-is [] s.active s.active refl a.choice.var i on in
+            absurd (on-first first d e agreed (ap (λ (x : Demand). x.target) (sym (get-at s.active i d (old-at i d place.0 at))) ∙ place.1))
+        | inr new ↦ elim (cases_lt i (length s.active + length woken)) [
+          | inl less ↦ rising-has (length s.active) (length woken) i (rising-from (length s.active) (count - length s.active) i new) less
+          | inr high ↦ absurd (by-first first d e agreed (fresh-owned s a woken fresh count h d (own-at i d at high)) (pending-yes e in'))
+        ]
+      ]
+
+  pub woken-suspected : IsFirstInstance s.trail a.choice.var → first_clash s.trail s.active ≡ None → AreSuspects after all woken-ones
+  woken-suspected first none i j d e at-i at-j agreed =
+      elim (are-suspected none i j d e at-i at-j agreed) [
+        | inl k ↦ inl (woken-at first i d e at-i (get-contains all j e at-j) agreed k)
+        | inr k ↦ inr (woken-at first j e d at-j (get-contains all i d at-i) (disagree-back after d e agreed) k)
       ]

@@ -1,11 +1,13 @@
 -- The stack that a choice would make.
-use Rattle.std.specs.Prelude.{◌≡◌, ℕ, ◌+◌, true, cond, List, [], ◌∷◌, ◌++◌, length, drop, find, Option, None}
+use Rattle.std.specs.Prelude.{◌≡◌, ℕ, ◌+◌, true, cond, List, [], ◌∷◌, ◌++◌, length, drop, filter, find, Option, None}
 use Rattle.std.specs.List.{Contains}
 use Rattle.qualified_goals.specs.declared.variable.Var.{Var}
+use Rattle.choice_problem.specs.declared.problem.Choice.{Choice}
 use Rattle.choice_problem.specs.declared.problem.Demand.{Demand}
 use Rattle.choice_problem.specs.Active.{asks_for}
 use Rattle.choice_problem.specs.Conflict.{is_broken}
 use Rattle.choice_problem.specs.Trail.{value_in}
+use Rattle.choice_problem.specs.Twins.{is_of_package, is_whole}
 use Rattle.choice_stack.specs.declared.addition.Addition.{Addition}
 use Rattle.validation.specs.View.{View}
 use Rattle.choice_stack.specs.Stack.{IsSettled, is_owned_by, last_number, turned}
@@ -30,6 +32,10 @@ pub record ArePending (s : View) (a : Addition) (woken fresh : List Demand) (cou
   pub woken_is : woken ≡ turned (s.trail ++ a.choice ∷ []) a.choice.var s.listed
   pub fresh_is : fresh ≡ turned (s.trail ++ a.choice ∷ []) a.choice.var a.demands
   pub counted : count ≡ length s.active + (length woken + length fresh)
+
+-- the variable is a package's instance, and none of that package is chosen
+abbrev pub IsFirstInstance : List Choice → Var → Type 0
+IsFirstInstance trail v = (is_whole v.part ≡ true) × (filter (is_of_package v.«package») trail ≡ [])
 
 -- the place of the demand, if it is on the variable
 abbrev pub place_if : ℕ → Var → Demand → List ℕ

@@ -1,16 +1,18 @@
 // The stack that a choice would make.
-ghost use Rattle.std.specs.Prelude.{◌≡◌, ◌+◌, ◌++◌, None, IfOk, OnOk, take};
+ghost use Rattle.std.specs.Prelude.{◌≡◌, ◌+◌, ◌++◌, true, None, IfOk, OnOk, length, take};
 ghost use Rattle.choice_problem.specs.Conflict.{agreement_set, first_clash, set_of_first};
 ghost use Rattle.choice_problem.specs.Trail.{value_in};
 ghost use Rattle.choice_stack.specs.Addition.{IsAddition};
-ghost use Rattle.validation.specs.Pending.{AreOwned, count_before, first_broken, place_if};
-ghost use Rattle.choice_stack.specs.Stack.{IsSettled, front_of, made, targets_by};
+ghost use Rattle.demand_agreement.specs.Clashes.{AreSuspects};
+ghost use Rattle.validation.specs.Pending.{AreOwned, IsFirstInstance, count_before, first_broken, place_if};
+ghost use Rattle.choice_stack.specs.Stack.{AllBelow, IsSettled, front_of, made, targets_by};
 
-use choice_problem::{ConflictSet, Demand, Var, is_same};
+use choice_problem::{ConflictSet, Demand, Trail, Var, is_same};
 use choice_stack::{Addition, Picked, Stack, push_range};
 use demand_agreement::{Asked, agreement_set_of};
 use demand_cycles::Graph;
 use plan_types::{List, NoMemory};
+use qualified_goals::Part;
 use std::alloc::Global;
 use std::marker::Model;
 
@@ -86,10 +88,38 @@ impl<'a> Pending<'a> {
         ensures { IfOk result (λ set. set ≡ agreement_set self.now.trail self.now.active) }
     {
         let trail = self.stack.values_with(self.addition.choice);
-        let mut places = self.stack.places_on(alloc, self.addition.choice.var)?;
-        push_range(&mut places, self.stack.count(), self.count)?;
+        let places = self.suspects(alloc)?;
         let set = agreement_set_of(alloc, self, &trail, places.as_slice())?;
         Ok(set)
+    }
+
+    // The places of the demands that may disagree with others. The first instance of a package has no twin, nor do its
+    // demands.
+    fn suspects(&self, alloc: Global) -> Result<Vec<usize>, NoMemory>
+        requires { first_clash (front_of self.now.trail) (take (count_before self.now) self.now.active) ≡ None }
+        ensures within { IfOk result (λ places. AllBelow (length self.now.active) places.items) }
+        ensures suspects { IfOk result (λ places. AreSuspects self.now.trail self.now.active places.items) }
+    {
+        let var = self.addition.choice.var;
+        let before = self.stack.count();
+        if is_first_instance(self.stack.trail(), var) {
+            let mut places = Vec::new(alloc);
+            push_range(&mut places, before, self.count - self.fresh.len())?;
+            return Ok(places);
+        }
+        let mut places = self.stack.places_on(alloc, var)?;
+        push_range(&mut places, before, self.count)?;
+        Ok(places)
+    }
+}
+
+// Whether a variable is a package's instance, and none of that package is chosen.
+fn is_first_instance(trail: &Trail, v: Var) -> bool
+    ensures { result ≡ true → IsFirstInstance trail.now v }
+{
+    match v.part {
+        Part::Package => trail.instances_of(v.package).is_empty(),
+        Part::Flag(_) | Part::Tests | Part::Benches => false,
     }
 }
 

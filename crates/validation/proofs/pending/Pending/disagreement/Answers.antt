@@ -1,16 +1,12 @@
-use Rattle.std.proofs.Common.{◌≡◌, ◌∙◌, ◌-◌, ◌++◌, ◌∷◌, [], ℕ, List, None, true, length, take, sym, ap, subst}
+use Rattle.std.proofs.Common.{◌≡◌, ◌∙◌, List, true, length, sym, ap, subst}
 use Rattle.std.specs.List.{Contains}
 use Rattle.choice_problem.specs.declared.problem.Choice.{Choice}
 use Rattle.choice_problem.specs.Assignment.{is_yes}
-use Rattle.choice_problem.specs.Conflict.{first_clash}
 use Rattle.choice_problem.specs.Trail.{value_in}
 use Rattle.demand_agreement.specs.Clashes.{AreSuspects}
-use Rattle.demand_agreement.specs.Places.{places_on}
 use Rattle.validation.specs.View.{View}
-use Rattle.validation.specs.Pending.{count_before}
-use Rattle.choice_stack.specs.Stack.{AllBelow, front_of, made, rising_from}
-use Rattle.validation.proofs.Weighed.{weighed-clash}
-use Rattle.validation.proofs.Disagreeing.{pending-yes, suspected, suspected-below, are-suspected}
+use Rattle.choice_stack.specs.Stack.{AllBelow}
+use Rattle.validation.proofs.Disagreeing.{pending-yes}
 use Rattle.validation.proofs.pending.Pending.disagreement.Goals as goal
 
 pub values_with-trail-requires : goal.values_with-trail-requires
@@ -23,28 +19,10 @@ agreement_set_of-requires-clause-active c d k =
     (pending-yes i.stack.now i.addition.now i.woken i.fresh i.count c.self.invariant d (subst (λ (x : View). Contains x.active d) (sym c.self.view_is) k))
 
 pub agreement_set_of-requires-clause-within : goal.agreement_set_of-requires-clause-within
-agreement_set_of-requires-clause-within c =
-    let i = c.self.inside in
-    let places : c.as_slice.result.now ≡ suspected i.stack.now i.addition.now i.woken i.fresh i.count c.self.invariant =
-    c.as_slice.ensures.value ∙ c.in_ok-push_range.ensures
-    ∙ ap (λ (l : List ℕ). l ++ rising_from c.count.result (i.count - c.count.result)) c.in_ok-places.ensures
-    ∙ ap (λ (n : ℕ). places_on i.addition.now.choice.var i.stack.now.active ++ rising_from n (i.count - n)) c.count.ensures in
-    subst (λ (x : View). AllBelow (length x.active) c.as_slice.result.now) c.self.view_is
-    (subst (AllBelow (length (made i.stack.now i.addition.now.choice i.addition.now.demands).active)) (sym places)
-    (suspected-below i.stack.now i.addition.now i.woken i.fresh i.count c.self.invariant))
+agreement_set_of-requires-clause-within c = subst (AllBelow (length c.args.self.now.active)) (sym c.as_slice.ensures.value) c.in_ok-places.ensures.within
 
 pub agreement_set_of-requires-clause-suspects : goal.agreement_set_of-requires-clause-suspects
 agreement_set_of-requires-clause-suspects c =
-    let i = c.self.inside in
-    let made_is = made i.stack.now i.addition.now.choice i.addition.now.demands in
-    let places : c.as_slice.result.now ≡ suspected i.stack.now i.addition.now i.woken i.fresh i.count c.self.invariant =
-    c.as_slice.ensures.value ∙ c.in_ok-push_range.ensures
-    ∙ ap (λ (l : List ℕ). l ++ rising_from c.count.result (i.count - c.count.result)) c.in_ok-places.ensures
-    ∙ ap (λ (n : ℕ). places_on i.addition.now.choice.var i.stack.now.active ++ rising_from n (i.count - n)) c.count.ensures in
-    let none : first_clash i.stack.now.trail i.stack.now.active ≡ None =
-    sym (weighed-clash i.stack.now i.addition.now.choice i.addition.now.demands)
-    ∙ ap (λ (x : View). first_clash (front_of x.trail) (take (count_before x) x.active)) c.self.view_is ∙ c.requires in
-    subst (λ (x : View). AreSuspects c.values_with-trail.result x.active c.as_slice.result.now) c.self.view_is
-    (subst (λ (t : List Choice). AreSuspects t made_is.active c.as_slice.result.now) (sym c.values_with-trail.ensures)
-    (subst (λ (l : List ℕ). AreSuspects (i.stack.now.trail ++ i.addition.now.choice ∷ []) made_is.active l) (sym places)
-    (are-suspected i.stack.now i.addition.now i.woken i.fresh i.count c.self.invariant none)))
+    let trail_is : c.args.self.now.trail ≡ c.values_with-trail.result = ap (λ (x : View). x.trail) (sym c.self.view_is) ∙ sym c.values_with-trail.ensures in
+    subst (λ (t : List Choice). AreSuspects t c.args.self.now.active c.as_slice.result.now) trail_is
+    (subst (AreSuspects c.args.self.now.trail c.args.self.now.active) (sym c.as_slice.ensures.value) c.in_ok-places.ensures.suspects)
