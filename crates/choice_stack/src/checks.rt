@@ -19,6 +19,9 @@ use goal_links::MentionPlaces;
 use plan_types::NoMemory;
 use std::alloc::Global;
 
+// The most owners that count as few.
+const FEW: usize = 8;
+
 pub(crate) fn refuses(c: Choice, d: &Demand) -> bool
     ensures { result ≡ refuses c d.now }
 {
@@ -220,6 +223,25 @@ pub(crate) fn owners_at(
     Ok(owners)
 }
 
+/// The same, or nothing where there are many.
+pub(crate) fn few_owners_at(
+    alloc: Global,
+    listed: &[Demand],
+    places: MentionPlaces<'_>,
+) -> Result<Option<Vec<Var>>, NoMemory>
+    requires { AllBelow (length listed.now) places }
+    ensures { IfOk result (λ few. IfSome few (λ owners. owners.items ≡ owners_of (demands_at listed.now places.entry))) }
+{
+    let mut owners = Vec::new(alloc);
+    for place in places {
+        if owners.len() == FEW {
+            return Ok(None);
+        }
+        push_owner_at(&mut owners, listed, place)?;
+    }
+    Ok(Some(owners))
+}
+
 fn push_owner_at(owners: &mut Vec<Var>, listed: &[Demand], place: usize) -> Result<(), NoMemory>
     requires { place < length listed.now }
     ensures { OnOk result (owners.new.items
@@ -229,21 +251,20 @@ fn push_owner_at(owners: &mut Vec<Var>, listed: &[Demand], place: usize) -> Resu
     Ok(())
 }
 
-/// The owners of the demands on a variable, among those at these places.
-pub(crate) fn owners_on(
-    alloc: Global,
+/// Appends the owners of the demands on a variable, among those at these places.
+pub(crate) fn push_owners_on(
+    owners: &mut Vec<Var>,
     listed: &[Demand],
     places: &[usize],
     to: Var,
-) -> Result<Vec<Var>, NoMemory>
+) -> Result<(), NoMemory>
     requires { AllBelow (length listed.now) places.now }
-    ensures { IfOk result (λ owners. owners.items ≡ sources_on to (demands_at listed.now places.now)) }
+    ensures { OnOk result (owners.new.items ≡ owners.old.items ++ sources_on to (demands_at listed.now places.now)) }
 {
-    let mut owners = Vec::new(alloc);
     for place in places {
-        push_owner_on(&mut owners, listed, *place, to)?;
+        push_owner_on(owners, listed, *place, to)?;
     }
-    Ok(owners)
+    Ok(())
 }
 
 fn push_owner_on(

@@ -3,7 +3,7 @@ ghost use Rattle.std.specs.Prelude.{◌≡◌, ◌-◌, ◌<◌, ◌++◌, Some,
 ghost use Rattle.choice_problem.specs.Conflict.{is_broken, set_of_first};
 ghost use Rattle.choice_stack.specs.Stack.{AllBelow, demands_at, rising_from, sources_on, targets_by};
 
-use crate::checks::{demand_in, first_broken, owners_on, set_at, targets_at};
+use crate::checks::{demand_in, first_broken, push_owners_on, set_at, targets_at};
 use choice_problem::{ConflictSet, Demand, Values, Var};
 use plan_types::{List, NoMemory};
 use std::alloc::Global;
@@ -62,12 +62,12 @@ impl<'a> Picked<'a> {
         Ok(set)
     }
 
-    /// The owners of the demands on a variable.
-    pub fn sources(&self, alloc: Global, to: Var) -> Result<List<Var>, NoMemory>
-        ensures { IfOk result (λ found. found ≡ sources_on to self.now) }
+    /// Appends the owners of the demands on a variable.
+    pub fn push_sources(&self, found: &mut Vec<Var>, to: Var) -> Result<(), NoMemory>
+        ensures { OnOk result (found.new.items ≡ found.old.items ++ sources_on to self.now) }
     {
-        let owners = owners_on(alloc, self.listed, self.places, to)?;
-        Ok(List::from_vec(owners))
+        push_owners_on(found, self.listed, self.places, to)?;
+        Ok(())
     }
 
     /// The targets of the demands that a variable owns.

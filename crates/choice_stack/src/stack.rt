@@ -18,7 +18,8 @@ ghost use Rattle.choice_stack.specs.Stack.{AreOpen, IsSettled, undone, names, Al
 
 use crate::addition::Addition;
 use crate::checks::{
-    demand_in, first_refusing, owners_at, reason_at, set_at, yes_among, yes_targets_at,
+    demand_in, few_owners_at, first_refusing, owners_at, reason_at, set_at, yes_among,
+    yes_targets_at,
 };
 use crate::goals::Goals;
 use crate::growth::{activate, list_all, make_ready};
@@ -28,9 +29,6 @@ use goal_links::Mentions;
 use plan_types::{List, NoMemory};
 use std::alloc::Global;
 use std::marker::Model;
-
-// The most active demands on a variable that count as few.
-const FEW: usize = 8;
 
 /// The lengths of the lists before a choice, and the entry of its variable.
 #[derive(Clone, Copy, Debug, Drop)]
@@ -307,16 +305,16 @@ impl Stack {
         Ok(List::from_vec(owners))
     }
 
-    /// The same, or nothing where many active demands are on the variable.
+    /// The same, or nothing where many edges lead to the variable.
     pub fn few_sources(&self, alloc: Global, to: Var) -> Result<Option<List<Var>>, NoMemory>
         ensures { IfOk result (λ few. IfSome few (λ found. (v : Var) →
             (Contains found v) ↔ (HasEdge (edges_of self.now.active) v to))) }
     {
-        if self.goals.places(to).nth(FEW).is_some() {
+        let places = self.goals.places(to);
+        let Some(owners) = few_owners_at(alloc, self.listed.as_slice(), places)? else {
             return Ok(None);
-        }
-        let found = self.sources(alloc, to)?;
-        Ok(Some(found))
+        };
+        Ok(Some(List::from_vec(owners)))
     }
 
     /// The variables to which edges from this one lead.

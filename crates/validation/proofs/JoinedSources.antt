@@ -1,5 +1,5 @@
 -- The sources of a variable among the active demands and the pending ones.
-use Rattle.std.proofs.Common.{◌≡◌, ◌↔◌, ◌++◌, List, sym, subst}
+use Rattle.std.proofs.Common.{◌↔◌, ◌++◌, List}
 use Rattle.std.specs.List.{Contains}
 use Rattle.qualified_goals.specs.declared.variable.Var.{Var}
 use Rattle.choice_problem.specs.declared.problem.Demand.{Demand}
@@ -13,9 +13,9 @@ use Rattle.validation.proofs.Weighed.{edge-either, edge-left, edge-right, found-
 abbrev pub AreSources : Var → List Demand → List Var → Type 0
 AreSources to demands found = (v : Var) → (Contains found v) ↔ (HasEdge (edges_of demands) v to)
 
-pub joined-sources : (to : Var) (active woken fresh : List Demand) (found second third : List Var) → AreSources to active found → second ≡ sources_on to woken
-    → third ≡ sources_on to fresh → AreSources to (active ++ (woken ++ fresh)) (found ++ (second ++ third))
-joined-sources to active woken fresh found second third first is js =
+pub joined-sources : (to : Var) (active woken fresh : List Demand) (found : List Var) → AreSources to active found
+    → AreSources to (active ++ (woken ++ fresh)) (found ++ (sources_on to woken ++ sources_on to fresh))
+joined-sources to active woken fresh found first =
     let Leads = λ (ds : List Demand) (v : Var). HasEdge (edges_of ds) v to in
-    found-joined Leads (λ xs ys v. edge-either xs ys v to) (λ xs ys v. edge-left xs ys v to) (λ xs ys v. edge-right xs ys v to) active woken fresh found second third first
-    (subst (AreSources to woken) (sym is) (sources-are woken to)) (subst (AreSources to fresh) (sym js) (sources-are fresh to))
+    found-joined Leads (λ xs ys v. edge-either xs ys v to) (λ xs ys v. edge-left xs ys v to) (λ xs ys v. edge-right xs ys v to) active woken fresh found (sources_on to woken)
+    (sources_on to fresh) first (sources-are woken to) (sources-are fresh to)

@@ -5,7 +5,7 @@ ghost use Rattle.choice_problem.specs.Trail.{value_in};
 ghost use Rattle.choice_stack.specs.Addition.{IsAddition};
 ghost use Rattle.demand_agreement.specs.Clashes.{AreSuspects};
 ghost use Rattle.validation.specs.Pending.{AreOwned, IsFirstInstance, count_before, first_broken, place_if};
-ghost use Rattle.choice_stack.specs.Stack.{AllBelow, IsSettled, front_of, made, targets_by};
+ghost use Rattle.choice_stack.specs.Stack.{AllBelow, IsSettled, front_of, made, sources_on, targets_by};
 
 use choice_problem::{ConflictSet, Demand, Trail, Var, is_same};
 use choice_stack::{Addition, Picked, Stack, push_range};
@@ -145,9 +145,7 @@ impl<'a> Graph for Pending<'a> {
 
     fn sources(&self, alloc: Global, to: Var) -> Result<List<Var>, NoMemory> {
         let found = self.stack.sources(alloc, to)?;
-        let woken = self.woken.sources(alloc, to)?;
-        let fresh = self.fresh.sources(alloc, to)?;
-        let all = joined(found, woken, fresh)?;
+        let all = with_sources(found, &self.woken, &self.fresh, to)?;
         Ok(all)
     }
 
@@ -155,9 +153,7 @@ impl<'a> Graph for Pending<'a> {
         let Some(found) = self.stack.few_sources(alloc, to)? else {
             return Ok(None);
         };
-        let woken = self.woken.sources(alloc, to)?;
-        let fresh = self.fresh.sources(alloc, to)?;
-        let all = joined(found, woken, fresh)?;
+        let all = with_sources(found, &self.woken, &self.fresh, to)?;
         Ok(Some(all))
     }
 
@@ -200,6 +196,21 @@ fn push_on(found: &mut Vec<usize>, d: &Demand, place: usize, v: Var) -> Result<(
         found.push(place)?;
     }
     Ok(())
+}
+
+// Some variables, and the owners of the demands on a variable among those that would become active.
+fn with_sources(
+    found: List<Var>,
+    woken: &Picked<'_>,
+    fresh: &Picked<'_>,
+    to: Var,
+) -> Result<List<Var>, NoMemory>
+    ensures { IfOk result (λ all. all ≡ found ++ (sources_on to woken.now ++ sources_on to fresh.now)) }
+{
+    let mut all = found.into_vec();
+    woken.push_sources(&mut all, to)?;
+    fresh.push_sources(&mut all, to)?;
+    Ok(List::from_vec(all))
 }
 
 // The targets of the demands that a variable owns. All the demands have one owner.
