@@ -169,6 +169,9 @@ fn is_on_cycle<G: Graph>(
     let Some(owner) = owner_of(demand) else {
         return Ok(false);
     };
+    if back.is_done(owner) {
+        return Ok(back.holds(demand.target));
+    }
     if !graph.is_chosen(demand.target) {
         return Ok(false);
     }

@@ -56,6 +56,14 @@ impl Side {
         self.place = 0;
     }
 
+    /// Whether it is the search from this end, and has found all that it can.
+    pub(crate) fn is_done(&self, end: Var) -> bool
+        ensures end { IsTrue result → self.now.end ≡ end }
+        ensures done { IsTrue result → length self.now.found ≤ self.now.place }
+    {
+        self.place >= self.found.len() && is_same(self.end, end)
+    }
+
     pub(crate) fn holds(&self, v: Var) -> bool
         ensures { result ≡ has self.now.found v }
     {
