@@ -91,6 +91,10 @@ pub(crate) fn set_at(
 fn set_named_by(alloc: Global, d: &Demand) -> Result<ConflictSet, NoMemory>
     ensures { IfOk result (λ set. set ≡ set_of (named_by d.now)) }
 {
+    if let [owner] = d.when.as_slice() {
+        let set = ConflictSet::of(alloc, &[d.target, owner.var])?;
+        return Ok(set);
+    }
     let mut named = Vec::new(alloc);
     push_named(&mut named, d)?;
     let set = ConflictSet::of(alloc, named.as_slice())?;
