@@ -94,14 +94,14 @@ fn last_of(sets: &[ConflictSet]) -> &ConflictSet
 fn add_failed(
     alloc: Global,
     failed: &mut List<ConflictSet>,
-    set: &ConflictSet,
+    set: ConflictSet,
 ) -> Result<(), NoMemory>
     requires { failed.old ≢ [] }
-    ensures { OnOk result (AddsToLast set.now failed.old failed.new) }
+    ensures { OnOk result (AddsToLast set failed.old failed.new) }
 {
-    let both = last_of(failed.as_slice()).union(alloc, set)?;
-    let last = failed.len() - 1;
-    failed.set(last, both);
+    let last = failed.pop().unwrap();
+    let both = last.joined(alloc, set)?;
+    failed.push(both)?;
     Ok(())
 }
 
@@ -279,7 +279,7 @@ impl<G: Guide + Drop> Walk<G> {
         ensures { IfOk result (Falls G.recalls set self.old self.new) }
     {
         if set.has(self.tree.top()) {
-            add_failed(alloc, &mut self.failed, &set)?;
+            add_failed(alloc, &mut self.failed, set)?;
             return Ok(WalkStep::On(Turn::Try));
         }
         self.cut(set)

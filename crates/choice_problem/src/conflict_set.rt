@@ -82,6 +82,21 @@ impl ConflictSet {
         })
     }
 
+    /// The union of two sets. The few variables of a small set are added to the other.
+    pub fn joined(self, alloc: Global, other: ConflictSet) -> Result<ConflictSet, NoMemory>
+        ensures { IfOk result (λ both. both ≡ union self other) }
+    {
+        let (few, many) = larger_last(self.vars, other.vars);
+        let both = if few.len() > FEW {
+            merged(alloc, few.as_slice(), many.as_slice())?
+        } else {
+            with_added(few.as_slice(), many)?
+        };
+        Ok(ConflictSet {
+            vars: List::from_vec(both),
+        })
+    }
+
     /// A copy of the set.
     pub fn copy(&self, alloc: Global) -> Result<ConflictSet, NoMemory>
         ensures { IfOk result (λ copied. copied ≡ self.now) }
@@ -162,6 +177,32 @@ fn by_size<'a>(left: &'a [Var], right: &'a [Var]) -> (&'a [Var], &'a [Var])
     } else {
         (left, right)
     }
+}
+
+// The same, of lists that are given away.
+fn larger_last(one: List<Var>, other: List<Var>) -> (List<Var>, List<Var>)
+    requires one { IsTrue (is_rising one) }
+    requires other { IsTrue (is_rising other) }
+    ensures both { union result.0 result.1 ≡ union one other }
+    ensures few { IsTrue (is_rising result.0) }
+    ensures many { IsTrue (is_rising result.1) }
+{
+    if one.len() > other.len() {
+        (other, one)
+    } else {
+        (one, other)
+    }
+}
+
+// The union of two rising lists, in the second one's memory.
+fn with_added(few: &[Var], many: List<Var>) -> Result<Vec<Var>, NoMemory>
+    requires { IsTrue (is_rising many) }
+    ensures both { IfOk result (λ both. both.items ≡ union few.now many) }
+    ensures rising { IfOk result (λ both. IsTrue (is_rising both.items)) }
+{
+    let mut all = many.into_vec();
+    add_all(&mut all, few)?;
+    Ok(all)
 }
 
 // The union of two rising lists. Each of the few costs a search, and a move of what is behind it.
