@@ -10,7 +10,7 @@ use Rattle.plan_types.specs.declared.refusal.Refusal.{Refusal}
 use Rattle.outside_folder.specs.Calls.{content_at}
 use Rattle.outside_folder.specs.Files.{Bytes, Files}
 use Rattle.outside_folder.specs.declared.calls.Content.TheVariants.{TooLarge, Bytes as Holds}
-use Rattle.project_file.specs.Read.{IsProject}
+use Rattle.project_file.specs.Read.{IsProject, IsWithFile}
 use Rattle.project_file.specs.declared.read.ProjectText.{ProjectText}
 use Rattle.project_file.proofs.ProjectFiles.{refused-behind}
 use Rattle.project_paths.specs.Local.{local_files, sought}
@@ -42,7 +42,7 @@ module _ (env : Env) (files : Files) (read : List ProjectText) (missed : Bool) (
 
   -- a file with a fault, whatever files come later
   pub refused_said : (path bytes : Bytes) (rest : List Bytes) (h : Halt) → Holds bytes ≡ content_at files path → GoesOn files project_files read missed freeze (path ∷ rest) →
-      Settles {A = Project} (IsProject env (read ++ record { path = path; bytes = bytes } ∷ [])) (Err h) → Answers {A = FilesProject} (AreSaid env files) (Err h)
+      Settles {A = Project × Bytes} (IsWithFile env read (record { path = path; bytes = bytes })) (Err h) → Answers {A = FilesProject} (AreSaid env files) (Err h)
   refused_said path bytes rest halt.NoMemory is goes says = tt
   refused_said path bytes rest halt.Failed is goes says = tt
   refused_said path bytes rest (halt.Refused r) is goes says =

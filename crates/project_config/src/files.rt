@@ -1,7 +1,6 @@
 // The project files in reading order, each judged before the next is read. The text of the freeze file is kept.
 ghost use Rattle.std.specs.Prelude.{◌≡◌, true, IfOk, IfSome, IsErrOf};
 ghost use Rattle.std.specs.List.{list_all};
-ghost use Rattle.std.specs.Str.{IsUtf8};
 ghost use Rattle.plan_types.specs.Name.{is_package_name};
 ghost use Rattle.plan_types.specs.Refusal.{Answers};
 ghost use Rattle.outside_folder.specs.Calls.{Leaves};
@@ -10,7 +9,7 @@ ghost use Rattle.project_config.specs.Project.{AreSaid, is_main, project_files, 
 
 use outside_folder::{Content, Folder, read_content};
 use plan_types::{Cause, Env, Halt, List, NoMemory, Project, Refusal, Text};
-use project_file::{ProjectText, empty_project, with_project_file};
+use project_file::{empty_project, with_project_file};
 use std::alloc::Global;
 
 /// The project of the project files.
@@ -44,9 +43,9 @@ pub(crate) fn read_files<F: Folder>(
             Content::Missing => implicit |= is_main(&path),
             Content::TooLarge => return Err(too_large(alloc, path)),
             Content::Bytes(bytes) => {
-                let text = ProjectText { path, bytes };
-                project = with_project_file(alloc, project, &text, env)?;
-                freeze = kept(freeze, text);
+                let (more, text) = with_project_file(alloc, project, &path, bytes, env)?;
+                project = more;
+                freeze = kept(freeze, path, text);
             }
         }
     }
@@ -58,26 +57,10 @@ pub(crate) fn read_files<F: Folder>(
 }
 
 // The text of the freeze file, once it is read.
-fn kept(before: Option<Text>, text: ProjectText) -> Option<Text>
-    requires { IsUtf8 text.bytes }
-    ensures { result ≡ kept before text }
+fn kept(before: Option<Text>, path: Text, text: Text) -> Option<Text>
+    ensures { result ≡ kept before (record { path = path; bytes = text }) }
 {
-    if is_freeze(&text.path) {
-        Some(text_of(text.bytes))
-    } else {
-        before
-    }
-}
-
-// A project file without fault is valid UTF-8.
-fn text_of(bytes: List<u8>) -> Text
-    requires { IsUtf8 bytes }
-    ensures { result ≡ bytes }
-{
-    match String::from_utf8(bytes.into_vec()) {
-        Ok(text) => Text::from_string(text),
-        Err(_) => unreachable!(),
-    }
+    if is_freeze(&path) { Some(text) } else { before }
 }
 
 fn is_freeze(path: &Text) -> bool

@@ -10,24 +10,19 @@ use Rattle.plan_types.specs.declared.refusal.Halt.{Halt}
 use Rattle.plan_types.specs.declared.refusal.Halt.TheVariants.{Failed}
 use Rattle.plan_types.specs.declared.project.Project.{Project}
 use Rattle.plan_types.specs.Refusal.{Answers, Settles}
-use Rattle.project_file.specs.Read.{IsProject}
+use Rattle.project_file.specs.Read.{IsWithFile}
 use Rattle.project_file.specs.declared.read.ProjectText.{ProjectText}
 use Rattle.project_file.proofs.ExtraPackages.{project-named}
+use Rattle.project_config.specs.Freeze.{kept}
 use Rattle.project_config.specs.Project.{AreSaid, project_files}
 use Rattle.project_config.specs.declared.files.FilesProject.{FilesProject}
 use Rattle.project_config.proofs.LocatedPackages.{all_said, large_said, refused_said}
 use Rattle.project_config.proofs.Reading.{GoesOn, implicit_at_end, kept_at_end, more_read}
-use Rattle.project_config.proofs.Texts.{last_is_text}
 use Rattle.common_laws.specs.Small.{if_some, some_at}
 use Rattle.project_config.proofs.files.read_files.Goals as goal
 
 pub with_project_file-requires : goal.with_project_file-requires
 with_project_file-requires g c = subst (λ (content : Content). IsReadable content) c.in-Bytes.is c.in_ok-content.ensures.within
-
-pub kept-freeze-requires : goal.kept-freeze-requires
-kept-freeze-requires g c =
-    let taken = c.loop-path.invariant.taken in
-    last_is_text c.args.env.now taken.0 (record { path = c.in-Some.path; bytes = c.in-Bytes.bytes }) c.in_ok-project-in-Bytes.project (c.in_ok-project-in-Bytes.ensures taken.0 taken.1)
 
 pub loop-path-init : goal.loop-path-init
 loop-path-init g c = record {
@@ -46,13 +41,14 @@ loop-path-preserved g c =
     let taken = c.loop-path.invariant.taken in record {
       taken = (
         taken.0 ++ record { path = c.in-Some.path; bytes = c.in-Bytes.bytes } ∷ [],
-        c.in_ok-project-in-Bytes.ensures taken.0 taken.1,
+        (c.in_ok-more-in-Bytes.ensures taken.0 taken.1).0,
         λ files t.
             let found = some_at _ _ files (c.loop-path.invariant.folder.same_files ∙ t) c.in_ok-content.ensures.observed in
             let is : Holds c.in-Bytes.bytes ≡ content_at files c.in-Some.path = sym c.in-Bytes.is ∙ found ∙ ap (content_at files) c.as_str.ensures in
             let goes = subst (GoesOn files project_files taken.0 c.loop-path.implicit c.loop-path.freeze) c.in-Some.ensures.steps.0 (taken.2 files t) in
             let text : ProjectText = record { path = c.in-Some.path; bytes = c.in-Bytes.bytes } in
-            subst (λ (freeze : Option Bytes). GoesOn files project_files (taken.0 ++ text ∷ []) c.loop-path.implicit freeze c.next.new.self.rest.items) (sym c.kept-freeze.ensures)
+            let kept_is = c.kept-freeze.ensures ∙ ap (λ (b : Bytes). kept c.loop-path.freeze (record { path = c.in-Some.path; bytes = b })) (c.in_ok-more-in-Bytes.ensures taken.0 taken.1).1 in
+            subst (λ (freeze : Option Bytes). GoesOn files project_files (taken.0 ++ text ∷ []) c.loop-path.implicit freeze c.next.new.self.rest.items) (sym kept_is)
             (more_read files project_files taken.0 c.loop-path.implicit c.loop-path.freeze c.in-Some.path c.next.new.self.rest.items goes c.in-Bytes.bytes is),
       );
       folder = onward _ _ _ _ _ (λ never. absurd never) (λ e. cc e) c.loop-path.invariant.folder c.in_ok-content.ensures.folder;
@@ -67,30 +63,30 @@ returns-in-TooLarge-clause-observed g c = if_some _ _ (λ files t.
     subst (λ (h : Halt). Answers {A = FilesProject} (AreSaid c.args.env.now files) (Err h)) (sym c.too_large.ensures)
     (large_said c.args.env.now files taken.0 c.loop-path.implicit c.loop-path.freeze c.loop-path.project c.in-Some.path c.next.new.self.rest.items is goes taken.1))
 
-pub returns-in_err-project-in-Bytes-clause-observed : goal.returns-in_err-project-in-Bytes-clause-observed
-returns-in_err-project-in-Bytes-clause-observed g c = if_some _ _ (λ files t.
-    let p = err_from_is_err_and c.from_residual-in_err-project-in-Bytes.result c.from_residual-in_err-project-in-Bytes.ensures.1 in
-    let passed : c.from_residual-in_err-project-in-Bytes.result ≡ Err c.in_err-project-in-Bytes.field-0.0 = p.1 ∙ ap Err p.2 in
+pub returns-in_err-more-in-Bytes-clause-observed : goal.returns-in_err-more-in-Bytes-clause-observed
+returns-in_err-more-in-Bytes-clause-observed g c = if_some _ _ (λ files t.
+    let p = err_from_is_err_and c.from_residual-in_err-more-in-Bytes.result c.from_residual-in_err-more-in-Bytes.ensures.1 in
+    let passed : c.from_residual-in_err-more-in-Bytes.result ≡ Err c.in_err-more-in-Bytes.field-0.0 = p.1 ∙ ap Err p.2 in
     let taken = c.loop-path.invariant.taken in
     let found = some_at _ _ files (c.loop-path.invariant.folder.same_files ∙ t) c.in_ok-content.ensures.observed in
     let is : Holds c.in-Bytes.bytes ≡ content_at files c.in-Some.path = sym c.in-Bytes.is ∙ found ∙ ap (content_at files) c.as_str.ensures in
     let goes = subst (GoesOn files project_files taken.0 c.loop-path.implicit c.loop-path.freeze) c.in-Some.ensures.steps.0 (taken.2 files t) in
     subst (Answers (AreSaid c.args.env.now files)) (sym passed)
-    (refused_said c.args.env.now files taken.0 c.loop-path.implicit c.loop-path.freeze c.in-Some.path c.in-Bytes.bytes c.next.new.self.rest.items c.in_err-project-in-Bytes.field-0.0 is goes
-    (c.in_err-project-in-Bytes.ensures taken.0 taken.1)))
+    (refused_said c.args.env.now files taken.0 c.loop-path.implicit c.loop-path.freeze c.in-Some.path c.in-Bytes.bytes c.next.new.self.rest.items c.in_err-more-in-Bytes.field-0.0 is goes
+    (c.in_err-more-in-Bytes.ensures taken.0 taken.1)))
 
-pub returns-in_err-project-in-Bytes-clause-folder :
-    goal.returns-in_err-project-in-Bytes-clause-folder
-returns-in_err-project-in-Bytes-clause-folder g c =
-    let p = err_from_is_err_and c.from_residual-in_err-project-in-Bytes.result c.from_residual-in_err-project-in-Bytes.ensures.1 in
-    let passed : c.from_residual-in_err-project-in-Bytes.result ≡ Err c.in_err-project-in-Bytes.field-0.0 = p.1 ∙ ap Err p.2 in
+pub returns-in_err-more-in-Bytes-clause-folder :
+    goal.returns-in_err-more-in-Bytes-clause-folder
+returns-in_err-more-in-Bytes-clause-folder g c =
+    let p = err_from_is_err_and c.from_residual-in_err-more-in-Bytes.result c.from_residual-in_err-more-in-Bytes.ensures.1 in
+    let passed : c.from_residual-in_err-more-in-Bytes.result ≡ Err c.in_err-more-in-Bytes.field-0.0 = p.1 ∙ ap Err p.2 in
     let taken = c.loop-path.invariant.taken in
     let text : ProjectText = record { path = c.in-Some.path; bytes = c.in-Bytes.bytes } in
-    let halts = c.in_err-project-in-Bytes.ensures taken.0 taken.1 in
+    let halts = c.in_err-more-in-Bytes.ensures taken.0 taken.1 in
     onward _ _ _ _ _
     (λ e.
-    let failed : c.in_err-project-in-Bytes.field-0.0 ≡ Failed = cc (passed, e) in
-    absurd (subst (λ (h : Halt). Settles {A = Project} (IsProject c.args.env.now (taken.0 ++ text ∷ [])) (Err h)) failed halts))
+    let failed : c.in_err-more-in-Bytes.field-0.0 ≡ Failed = cc (passed, e) in
+    absurd (subst (λ (h : Halt). Settles {A = Project × Bytes} (IsWithFile c.args.env.now taken.0 text) (Err h)) failed halts))
     (λ e. absurd (cc e)) c.loop-path.invariant.folder c.in_ok-content.ensures.folder
 
 pub returns-clause-observed : goal.returns-clause-observed
