@@ -1,4 +1,4 @@
--- Shared: lists by their last items, and nodes that have given a value, all but the last.
+-- Lists by their last items, and nodes that have given a value, all but the last.
 use Rattle.std.proofs.Common.{◌≡◌, ◌≢◌, ℕ, Option, Some, None, ◌-◌, ◌<◌, ◌≤◌, List, [], ◌∷◌, ◌++◌, length, get_or, refl, sym, ap, ◌∙◌, subst, arith, length-append}
 use Rattle.std.specs.Prelude.{slice_set, MatchOption}
 use Rattle.std.specs.List.{All}
@@ -49,7 +49,7 @@ grown-step outer node new grown within = record {
   given = λ front last e. grown.given front node (ap (λ l. l ++ node ∷ []) (snoc-same outer new front last e).0);
 }
 
-pub set-last : {X : Type 0} (xs outer : List X) (x new : X) (i : ℕ) → xs ≡ outer ++ x ∷ [] → i ≡ length xs - 1 → slice_set xs i new ≡ outer ++ new ∷ []
+set-last : {X : Type 0} (xs outer : List X) (x new : X) (i : ℕ) → xs ≡ outer ++ x ∷ [] → i ≡ length xs - 1 → slice_set xs i new ≡ outer ++ new ∷ []
 set-last xs outer x new i e k =
     let at : i ≡ length outer = omega (arith, k, ap length e, length-append outer (x ∷ [])) in
     ap (λ l. slice_set l i new) e ∙ ap (λ j. slice_set (outer ++ x ∷ []) j new) at ∙ set-append_seam outer x [] new
