@@ -167,7 +167,7 @@ module _ (selection : Selection) where
   wanted_in p d = is_wanted_under selection Top p (chosen_flags selection Top p d)
 
   wanted-asked : (p : ℕ) (d : Description) (c : Component) → wanted_in p d c ≡ true → is_asked selection Top p c.kind ≡ true
-  wanted-asked p d c h = (and_parts (is_asked selection Top p c.kind) (condition_holds selection.env (chosen_flags selection Top p d) c.buildable) h).0
+  wanted-asked p d c h = (and_parts (is_asked selection Top p c.kind) (condition_holds selection.env (chosen_flags selection Top p d) c.build.buildable) h).0
 
   first-stands : (local : Bool) (p : ℕ) (d : Description) (k : ℕ) → Contains (first_places local (wanted_in p d) d.components) k
       → StandsAt (λ c. is_asked selection Top p c.kind) d.components k
