@@ -1,13 +1,14 @@
 // The command `freeze`: a plan as the constraints of its choices, after the old freeze file.
-ghost use Rattle.std.specs.Prelude.{◌≡◌, IfOk, IsErrOf, Some};
+ghost use Rattle.std.specs.Prelude.{◌≡◌, false, IfOk, IsErrOf, Some};
 ghost use Rattle.choice_problem.specs.Trail.{AreNew};
 ghost use Rattle.outside_folder.specs.Calls.{Leaves};
 ghost use Rattle.outside_folder.specs.Files.{Files};
 ghost use Rattle.freeze_text.specs.Text.{ends_with_newline, with_newline};
 ghost use Rattle.plan_command.specs.Form.{frozen_text, old_freeze_text};
 ghost use Rattle.command_line.specs.declared.reading.Command.TheVariants.{Freeze};
-ghost use Rattle.plan_command.specs.Meaning.{MeansFreeze};
-ghost use Rattle.plan_command.specs.Run.{IsOutputOfFreeze, MayPrint};
+ghost use Rattle.plan_command.specs.Meaning.{MeansFreeze, MeansTask};
+ghost use Rattle.plan_command.specs.Run.{IsOutputOfFreeze, IsOutputOfTask, MayPrint};
+ghost use Rattle.plan_task.specs.Task.{IsReady};
 
 use crate::form::Form;
 use crate::output::{Output, halted};
@@ -18,7 +19,7 @@ use freeze_file::freeze;
 use freeze_text::text_of_freeze;
 use outside_folder::{Folder, Trouble};
 use plan_search::Picking;
-use plan_task::read_task;
+use plan_task::{Task, read_task};
 use plan_types::{Index, List, NoMemory, Text};
 use qualified_goals::Names;
 use std::alloc::Global;
@@ -36,22 +37,19 @@ pub(crate) fn output_of_freeze<F: Folder>(
     ensures folder { Leaves F.tells F.faults folder.old folder.new (IsErrOf result Trouble.Failed) }
 {
     match read_task(alloc, options, folder) {
-        Ok(task) => {
-            let before = old_freeze_text(alloc, &task.freeze)?;
-            let form = Form::Freeze(before);
-            Ok(planned(alloc, Picking::Least, false, &form, &task)?)
-        }
+        Ok(task) => Ok(frozen(alloc, task)?),
         Err(halt) => halted(alloc, halt),
     }
 }
 
-fn old_freeze_text(alloc: Global, file: &Option<Text>) -> Result<Text, NoMemory>
-    ensures { IfOk result (λ text. text ≡ old_freeze_text file.now) }
+// The output of a search over a task, in the form of constraints. The old freeze file moves into the form.
+fn frozen(alloc: Global, mut task: Task) -> Result<Output, NoMemory>
+    requires { IsReady task }
+    ensures headline { IfOk result (MeansTask Picking.Least false (Form.Freeze (old_freeze_text task.freeze)) task) }
+    ensures output { IfOk result (IsOutputOfTask Picking.Least false (Form.Freeze (old_freeze_text task.freeze)) task) }
 {
-    match file {
-        Some(text) => text.copy(),
-        None => Ok(Text::new(alloc)),
-    }
+    let before = task.freeze.take().unwrap_or(Text::new(alloc));
+    planned(alloc, Picking::Least, false, &Form::Freeze(before), &task)
 }
 
 /// The old freeze file, and then the constraints of a trail.
@@ -67,16 +65,18 @@ pub(crate) fn frozen_text(
 {
     let project = freeze(alloc, trail, index, names)?;
     let constraints = text_of_freeze(alloc, &project)?;
-    let mut text = with_newline(before)?;
+    let mut text = with_newline(alloc, before, constraints.as_bytes().len())?;
     text.push_str(constraints.as_str())?;
     Ok(text)
 }
 
-// A text whose last line ends with a line feed.
-fn with_newline(text: &Text) -> Result<Text, NoMemory>
+// A copy of a text, with a line feed after its last line and with capacity for so many more bytes.
+fn with_newline(alloc: Global, text: &Text, more: usize) -> Result<Text, NoMemory>
     ensures { IfOk result (λ copied. copied ≡ with_newline text.now) }
 {
-    let mut copied = text.copy()?;
+    let room = text.as_bytes().len().saturating_add(1).saturating_add(more);
+    let mut copied = Text::from_string(String::with_capacity(alloc, room)?);
+    copied.push_str(text.as_str())?;
     if !ends_with_newline(text.as_bytes()) {
         copied.push_str("\n")?;
     }

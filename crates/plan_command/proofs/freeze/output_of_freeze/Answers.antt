@@ -1,4 +1,4 @@
-use Rattle.std.proofs.Common.{false, Err, refl, ap, subst, ◌∙◌}
+use Rattle.std.proofs.Common.{false, Err, refl, ap, subst}
 use Rattle.std.proofs.lemmas.Result.{IfOk-weaker}
 use Rattle.common_laws.specs.Small.{some_at}
 use Rattle.outside_folder.specs.Files.{Bytes}
@@ -14,25 +14,26 @@ use Rattle.plan_command.specs.Run.{IsOutputOfTask, of_refusal, of_task}
 use Rattle.plan_command.proofs.Outputs.{frozen-output, planned-means, unfrozen-output}
 use Rattle.plan_command.proofs.freeze.output_of_freeze.Goals as goal
 
-pub returns-in_ok-planned-in-Ok-clause-meaning : goal.returns-in_ok-planned-in-Ok-clause-meaning
-returns-in_ok-planned-in-Ok-clause-meaning g c = λ files t.
+pub returns-in_ok-frozen-in-Ok-clause-meaning : goal.returns-in_ok-frozen-in-Ok-clause-meaning
+returns-in_ok-frozen-in-Ok-clause-meaning g c = λ files t.
     let task = c.in-Ok.task in
-    let output = c.in_ok-planned-in-Ok.field-0 in
-    let before = c.in_ok-before-in-Ok.ensures ∙ ap old_freeze_text (some_at _ _ files t c.in-Ok.ensures.freeze) in
+    let output = c.in_ok-frozen-in-Ok.field-0 in
+    let before = ap old_freeze_text (some_at _ _ files t c.in-Ok.ensures.freeze) in
     planned-means c.args.options files (frozen_form files) Least false task (some_at _ _ files t c.in-Ok.ensures.observed) c.in-Ok.ensures.ready output
-    (subst (λ (b : Bytes). MeansTask Least false (Freeze b) task output) before c.in_ok-planned-in-Ok.ensures.headline)
+    (subst (λ (b : Bytes). MeansTask Least false (Freeze b) task output) before c.in_ok-frozen-in-Ok.ensures.headline)
 
-pub returns-in_ok-planned-in-Ok-clause-observed : goal.returns-in_ok-planned-in-Ok-clause-observed
-returns-in_ok-planned-in-Ok-clause-observed g c = λ files t.
+pub returns-in_ok-frozen-in-Ok-clause-observed : goal.returns-in_ok-frozen-in-Ok-clause-observed
+returns-in_ok-frozen-in-Ok-clause-observed g c = λ files t.
     let task = c.in-Ok.task in
-    let output = c.in_ok-planned-in-Ok.field-0 in
-    let before = c.in_ok-before-in-Ok.ensures ∙ ap old_freeze_text (some_at _ _ files t c.in-Ok.ensures.freeze) in
+    let output = c.in_ok-frozen-in-Ok.field-0 in
+    let before = ap old_freeze_text (some_at _ _ files t c.in-Ok.ensures.freeze) in
     frozen-output c.args.options files task output (some_at _ _ files t c.in-Ok.ensures.observed)
-    (subst (λ (b : Bytes). IsOutputOfTask Least false (Freeze b) task output) before c.in_ok-planned-in-Ok.ensures.output)
+    (subst (λ (b : Bytes). IsOutputOfTask Least false (Freeze b) task output) before c.in_ok-frozen-in-Ok.ensures.output)
 
-pub returns-in_ok-planned-in-Ok-clause-form : goal.returns-in_ok-planned-in-Ok-clause-form
-returns-in_ok-planned-in-Ok-clause-form g c =
-    of_task (Freeze c.in_ok-before-in-Ok.before) (c.in_ok-before-in-Ok.before, refl) c.in-Ok.task c.in-Ok.ensures.ready c.in_ok-planned-in-Ok.ensures.output
+pub returns-in_ok-frozen-in-Ok-clause-form : goal.returns-in_ok-frozen-in-Ok-clause-form
+returns-in_ok-frozen-in-Ok-clause-form g c =
+    let before = old_freeze_text c.in-Ok.task.freeze in
+    of_task (Freeze before) (before, refl) c.in-Ok.task c.in-Ok.ensures.ready c.in_ok-frozen-in-Ok.ensures.output
 
 pub returns-in-Err-clause-observed : goal.returns-in-Err-clause-observed
 returns-in-Err-clause-observed g c = λ files t.
