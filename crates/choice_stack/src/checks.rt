@@ -234,7 +234,8 @@ pub(crate) fn few_owners_at(
     places: MentionPlaces<'_>,
 ) -> Result<Option<Vec<Var>>, NoMemory>
     requires { AllBelow (length listed.now) places }
-    ensures { IfOk result (λ few. IfSome few (λ owners. owners.items ≡ owners_of (demands_at listed.now places.entry))) }
+    ensures { IfOk result (λ few. IfSome few
+        (λ owners. owners.items ≡ owners_of (demands_at listed.now places.entry))) }
 {
     let mut owners = Vec::new(alloc);
     for place in places {
