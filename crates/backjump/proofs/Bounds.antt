@@ -1,5 +1,8 @@
 -- A search makes no more tries than its answer counts.
 use Rattle.std.proofs.Common.{◌≡◌, ℕ, ◌+◌, ◌-◌, ◌*◌, ◌<◌, ◌≤◌, List, [], ◌∷◌, ◌++◌, length, sym, ap, subst, arith, length-append}
+use Rattle.std.specs.Prelude.{Result, IfOk, OnErr}
+use Rattle.std.proofs.lemmas.Result.{IfOk-weaker}
+use Rattle.common_laws.specs.Small.{on-err}
 use Rattle.choice_problem.specs.Trail.{choice_of}
 use Rattle.choice_problem.specs.Answer.{Answer, one_visited, of_value}
 use Rattle.choice_problem.proofs.SearchLimits.{of_value-tries, answer-tries}
@@ -12,7 +15,7 @@ use Rattle.backjump.specs.declared.walk.End.{End}
 use Rattle.backjump.specs.declared.walk.End.TheVariants.{Whole, NoPlan, Stopped}
 use Rattle.backjump.specs.declared.walk.WalkStep.{WalkStep}
 use Rattle.backjump.specs.declared.walk.WalkStep.TheVariants.{On}
-use Rattle.backjump.specs.Walk.{Point, Search, manner, whole, below, of_point, of_point_after, resume, nodes_of, Recalls, past_at, failed_with, AtValue, IsAt, IsEnd, IsNext, load, GoesOn, Moves, StopsAt}
+use Rattle.backjump.specs.Walk.{Point, Search, manner, whole, below, of_point, of_point_after, resume, nodes_of, Recalls, past_at, failed_with, AtValue, IsAt, IsEnd, IsNext, load, Goes, GoesOn, Moves, Stops, StopsAt}
 use Rattle.backjump.proofs.Rises.{point-rises, after-rises, resume-rises}
 use Rattle.backjump.proofs.Moves.{lighter-more}
 
@@ -62,6 +65,19 @@ module _ {G : Type 0} (recalls : Recalls G) (s : Search) where
     next = moves.next;
     lighter = lighter-more most (4 * 1 + load old Try) new step moves.lighter (omega (arith, h));
   }
+
+  -- a step without a try, and one that ran out of memory
+  pub goes-if-ok : {E : Type 0} (result : Result WalkStep E) (told : WalkStep → Type 0) (old new : Walk G) (turn at-turn : Turn) (most steps : ℕ) → turn ≡ at-turn
+      → ((visited : ℕ) → IsAt recalls s old visited at-turn → most ≤ load old at-turn)
+      → ((step : WalkStep) → told step → (visited : ℕ) → IsAt recalls s old visited at-turn → Moves recalls s new visited most step)
+      → IfOk result told → IfOk result (Goes recalls s old new turn steps steps)
+  goes-if-ok result told old new turn at-turn most steps is less moves ok =
+      subst (λ t. IfOk result (Goes recalls s old new t steps steps)) (sym is)
+      (IfOk-weaker result told (Goes recalls s old new at-turn steps steps)
+      (λ step h visited at. goes-still old new at-turn visited most steps step (less visited at) (moves step h visited at)) ok)
+
+  pub stops-on-err : {A E : Type 0} (result : Result A E) (w : Walk G) (turn : Turn) (steps : ℕ) → OnErr result (Stops recalls s w turn steps steps)
+  stops-on-err result w turn steps = on-err result (Stops recalls s w turn steps steps) (λ visited at. stops-still w visited turn steps at)
 
   -- a node that gives a value leaves the number of nodes unchanged
   pub same-length : (w : Walk G) (visited n : ℕ) (tree : List TreeNode) → ((outer : List TreeNode) (node : TreeNode) → w.tree ≡ outer ++ node ∷ [] → GivesNext outer node tree n)

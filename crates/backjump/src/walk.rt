@@ -14,7 +14,7 @@ ghost use Rattle.backjump.specs.Walk.{IsPointSet, Stops, SomeAt, SomeValue, Some
 use crate::Guide;
 use choice_problem::{Choice, Choices, ConflictSet, Counts, Limit, Outcome, Steps, Var};
 use choice_tree::Tree;
-use plan_types::{List, NoMemory};
+use plan_types::{List, NoMemory, drop_fields};
 use std::alloc::Global;
 use std::sync::ledger::Ledger;
 use validation::{State, Verdict};
@@ -54,16 +54,9 @@ pub struct Walk<G> {
     guide: G,
 }
 
-// Explicit, so that it is proved once: a derived one is expanded at each exit.
 impl<G: Drop> Drop for Walk<G> {
     fn drop(self) {
-        let Walk {
-            tree: _tree,
-            failed: _failed,
-            state: _state,
-            counts: _counts,
-            guide: _guide,
-        } = self;
+        drop_fields!(self; tree, failed, state, counts, guide);
     }
 }
 
