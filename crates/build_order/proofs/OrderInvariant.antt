@@ -11,7 +11,7 @@ use Rattle.build_order.specs.declared.building.Building.{Building}
 use Rattle.build_order.specs.Order.{IsReady, IsLeastReady, IsBuildOrder}
 use Rattle.common_laws.specs.Lists.{contains-none, push_split}
 use Rattle.common_laws.specs.Graphs.{IsMarked, Needs}
-use Rattle.build_order.specs.Building.{AreMet, IsFirstUnmet, IsTakenAsLeast, IsMetBefore, IsWait, NoNode, Alone, Keeps, IsSound, BecomesReady, HasToWait, needs_of}
+use Rattle.build_order.specs.Building.{AreMet, IsFirstUnmet, IsTakenAsLeast, IsMetBefore, IsWait, NoNode, Alone, Keeps, IsSound, BecomesReady, HasToWait, Waits, needs_of}
 
 pub default_past : {X : Type 0} (n i : ℕ) (d : X) → get_or (replicate n d) i d ≡ d
 default_past zero i d = refl
@@ -23,19 +23,19 @@ abbrev pub IsIn : List Wait → ℕ → Type 0
 IsIn waits u = (w : Wait) × Contains waits w × (w.node ≡ u)
 
 module _ (needs : List (List ℕ)) where
+  -- the order and its marks stay; other nodes are ready, wait or are open
+  with_others : (P Q : ℕ → Type 0) (o : List ℕ) (m : List Bool) (r r' : List ℕ) (w w' : List (List Wait)) → Keeps needs P o m r w → length w' ≡ length needs
+      → ((u : ℕ) → Contains r' u → IsReady needs o u) → ((v : ℕ) (wait : Wait) → Contains (get_or w' v []) wait → IsWait needs o v wait)
+      → ((u : ℕ) → u < length needs → (Contains o u → ⊥) → Contains r' u ⊎ Waits w' u ⊎ Q u) → Keeps needs Q o m r' w'
+  with_others P Q o m r r' w w' k tables first waits found =
+      record { count = k.count; tables = tables; each = k.each; placed = k.placed; first = first; waits = waits; found = found }
+
   pub same : (P Q : ℕ → Type 0) (o o' : List ℕ) (m m' : List Bool) (r r' : List ℕ) (w w' : List (List Wait)) → o' ≡ o → m' ≡ m → r' ≡ r → w' ≡ w →
       ((u : ℕ) → u < length needs → P u → Q u) → Keeps needs P o m r w → Keeps needs Q o' m' r' w'
   same P Q o o' m m' r r' w w' io im ir iw more k =
       subst (λ x. Keeps needs Q x m' r' w') (sym io) (subst (λ x. Keeps needs Q o x r' w') (sym im) (subst (λ x. Keeps needs Q o m x w') (sym ir) (subst (λ x. Keeps needs Q o m r x) (sym iw)
-      (record {
-        count = k.count;
-        tables = k.tables;
-        each = k.each;
-        placed = k.placed;
-        first = k.first;
-        waits = k.waits;
-        found = λ u l n. ⊎_elim (λ a. inl a) (λ b. ⊎_elim (λ c. inr (inl c)) (λ p. inr (inr (more u l p))) b) (k.found u l n);
-      }))))
+      (with_others P Q o m r r w w k k.tables k.first k.waits
+      (λ u l n. ⊎_elim (λ a. inl a) (λ b. ⊎_elim (λ c. inr (inl c)) (λ p. inr (inr (more u l p))) b) (k.found u l n))))))
 
   pub begins : Keeps needs (λ u. 0 ≤ u) [] (replicate (length needs) false) [] (replicate (length needs) [])
   begins =
@@ -65,17 +65,11 @@ module _ (needs : List (List ℕ)) where
 
       pub becomes_ready : Keeps needs Q order marks ready' waiting
       becomes_ready =
-          record {
-            count = s.count;
-            tables = s.tables;
-            each = s.each;
-            placed = s.placed;
-            first = λ u c. ⊎_elim (λ o. s.first u o) (λ e. subst (λ k. IsReady needs order k) (sym e) is_ready) ((more u).0 c);
-            waits = s.waits;
-            found = λ u l n. ⊎_elim (λ a. inl ((more u).1 (inl a)))
-                (λ b. ⊎_elim (λ w. inr (inl w)) (λ p. ⊎_elim (λ e. inl ((more u).1 (inr e))) (λ q. inr (inr q)) (opens u p)) b)
-                (s.found u l n);
-          }
+          with_others P Q order marks ready ready' waiting waiting s s.tables
+          (λ u c. ⊎_elim (λ o. s.first u o) (λ e. subst (λ k. IsReady needs order k) (sym e) is_ready) ((more u).0 c)) s.waits
+          (λ u l n. ⊎_elim (λ a. inl ((more u).1 (inl a)))
+          (λ b. ⊎_elim (λ w. inr (inl w)) (λ p. ⊎_elim (λ e. inl ((more u).1 (inr e))) (λ q. inr (inr q)) (opens u p)) b)
+          (s.found u l n))
 
     module _ (place : ℕ) (unmet : IsFirstUnmet (needs_of needs node) marks from place) (bound : get_or (needs_of needs node) place 0 < length needs) where
       abbrev need : ℕ
@@ -125,18 +119,11 @@ module _ (needs : List (List ℕ)) where
 
       pub has_to_wait : Keeps needs Q order marks ready (set waiting need list)
       has_to_wait =
-          record {
-            count = s.count;
-            tables = length-set waiting need list ∙ s.tables;
-            each = s.each;
-            placed = s.placed;
-            first = s.first;
-            waits = waits';
-            found = λ u l n. ⊎_elim (λ a. inl a)
-                (λ b. ⊎_elim (λ w. inr (inl (w.0, w.1, grown w.0 w.1 w.2, w.3)))
-                (λ p. ⊎_elim (λ e. inr (inl (need, wait, itself, sym e))) (λ q. inr (inr q)) (opens u p)) b)
-                (s.found u l n);
-          }
+          with_others P Q order marks ready ready waiting (set waiting need list) s (length-set waiting need list ∙ s.tables) s.first waits'
+          (λ u l n. ⊎_elim (λ a. inl a)
+          (λ b. ⊎_elim (λ w. inr (inl (w.0, w.1, grown w.0 w.1 w.2, w.3)))
+          (λ p. ⊎_elim (λ e. inr (inl (need, wait, itself, sym e))) (λ q. inr (inr q)) (opens u p)) b)
+          (s.found u l n))
 
   pub settled : (P Q : ℕ → Type 0) (old new : Building) (node from : ℕ) → All (All (λ v. v < length needs)) needs → IsSound needs P old → IsMetBefore needs old.order node from →
       ((u : ℕ) → P u → (u ≡ node) ⊎ Q u) → new.order ≡ old.order → new.placed ≡ old.placed → BecomesReady needs node from old new ⊎ HasToWait needs node from old new → IsSound needs Q new
@@ -167,17 +154,8 @@ module _ (needs : List (List ℕ)) where
 
       pub taken_keeps : Keeps needs (Alone node) order marks ready' waiting
       taken_keeps =
-          record {
-            count = s.count;
-            tables = s.tables;
-            each = s.each;
-            placed = s.placed;
-            first = λ u c. s.first u (t.was u c);
-            waits = s.waits;
-            found = λ u l n. ⊎_elim (λ a. ⊎_elim (λ e. inr (inr e)) (λ c. inl c) (t.stays u a))
-                (λ b. ⊎_elim (λ w. inr (inl w)) (λ p. absurd p) b)
-                (s.found u l n);
-          }
+          with_others NoNode (Alone node) order marks ready ready' waiting waiting s s.tables (λ u c. s.first u (t.was u c)) s.waits
+          (λ u l n. ⊎_elim (λ a. ⊎_elim (λ e. inr (inr e)) (λ c. inl c) (t.stays u a)) (λ b. ⊎_elim (λ w. inr (inl w)) (λ p. absurd p) b) (s.found u l n))
 
   module _ (order : List ℕ) (marks : List Bool) (ready : List ℕ) (waiting : List (List Wait)) (node : ℕ) (s : Keeps needs (Alone node) order marks ready waiting)
       (least : IsLeastReady needs order node) (gone : Contains ready node → ⊥) where

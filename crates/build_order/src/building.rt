@@ -6,7 +6,7 @@ ghost use Rattle.common_laws.specs.Graphs.{IsGraph};
 ghost use Rattle.build_order.specs.Building.{Alone, AreMet, IsFirstUnmet, IsSound, NoNode, WaitsOrIsReady, TakesLeast, with_wait};
 
 use crate::ready::{add, take_least};
-use plan_types::{List, NoMemory};
+use plan_types::{List, NoMemory, drop_fields};
 use std::alloc::Global;
 use std::collections::BTreeSet;
 use std::mem;
@@ -27,15 +27,9 @@ pub(crate) struct Building {
     pub waiting: Vec<List<Wait>>,
 }
 
-// Explicit, so that it is proved once: a derived one is expanded at each exit.
 impl Drop for Building {
     fn drop(self) {
-        let Building {
-            order: _order,
-            placed: _placed,
-            ready: _ready,
-            waiting: _waiting,
-        } = self;
+        drop_fields!(self; order, placed, ready, waiting);
     }
 }
 

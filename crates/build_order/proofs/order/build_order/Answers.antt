@@ -17,10 +17,8 @@ pub place-requires-clause-least : goal.place-requires-clause-least
 place-requires-clause-least c =
     let e = c.in-Some.ensures in
     let b = c.loop-node.building in
-    let needs = c.args.needs.now in
-    let node = c.in-Some.node in
-    subst (λ (o : List ℕ). IsLeastReady needs o node) (sym e.order)
-    (taken_least needs b.order b.placed b.ready.keys b.waiting.items c.loop-node.invariant c.next.new.self.ready.keys node e.least)
+    subst (λ (o : List ℕ). IsLeastReady c.args.needs.now o c.in-Some.node) (sym e.order)
+    (taken_least c.args.needs.now b.order b.placed b.ready.keys b.waiting.items c.loop-node.invariant c.next.new.self.ready.keys c.in-Some.node e.least)
 
 pub returns : goal.returns
 returns c =
