@@ -1,7 +1,6 @@
 // A law that crates above use.
 
-ghost use Rattle.std.specs.Prelude.{◌≡◌, List, ℕ};
-ghost use Rattle.std.specs.declared.result.Result.{Result};
+ghost use Rattle.std.specs.Prelude.{◌≡◌, List, ℕ, Result};
 ghost use Rattle.plan_types.specs.declared.condition.Env.{Env};
 ghost use Rattle.description.specs.declared.fault_order.At.{At};
 ghost use Rattle.plan_types.specs.declared.index.Source.{Source};
