@@ -51,6 +51,17 @@ stands_one : {bound depth : ℕ} {braced : Bool} {item : Element} (line : Line) 
 stands_one {bound} {depth} {braced} {item} line block e b =
     subst (λ v. Stands bound depth braced (line ∷ v) (item ∷ [])) (append-nil block) (element line block [] e b nothing)
 
+-- one element that lacks its closing brace alone
+one_open : {bound depth : ℕ} {braced : Bool} {item : Element} (line : Line) (block : List Line) → ends bound braced line ≡ false → Block depth braced line (block ++ the_close ∷ []) [] item →
+    Closing bound depth braced (line ∷ block) (line ∷ block)
+one_open line block e b = record {
+  closers = the_close ∷ [];
+  close = ap (λ v. v && true) the_close-closes;
+  items = _;
+  stands = stands_one line (block ++ the_close ∷ []) e b;
+  head = λ _ _ h. h;
+}
+
 in_section : {bound depth : ℕ} {braced : Bool} (line : Line) {name args : List ℕ} (front whole : List Line) → ends bound braced line ≡ false →
     within depth (opening line.text) ≡ Ok (Opening.section name args) → Closing (line.indent + 1) (depth + 1) braced front whole → Closing bound depth braced (line ∷ front) (line ∷ whole)
 in_section line front whole e b c = record {
@@ -83,6 +94,22 @@ behind {bound} {depth} {braced} {item} line block rest front whole e b w c = rec
   head = λ _ _ h. h;
 }
 
+-- a section splits where the lines inside it do
+in_body : {bound depth bound' depth' : ℕ} {braced braced' : Bool} {at : Line} {cause : Cause} (line : Line) (lines : List Line)
+    → ((front whole : List Line) → Closing bound' depth' braced' front whole → Closing bound depth braced (line ∷ front) (line ∷ whole))
+    → ((others : List Line) → Fails bound' depth' braced' others at cause → Fails bound depth braced (line ∷ others) at cause)
+    → Split bound' depth' braced' lines at cause → Split bound depth braced (line ∷ lines) at cause
+in_body line lines closed fails (misfits m) = misfits (record {
+  front = line ∷ m.front;
+  rest = m.rest;
+  whole = ap (λ v. line ∷ v) m.whole;
+  closing = closed m.front _ m.closing;
+  inner = m.inner;
+  because = m.because;
+  again = λ others. fails _ (m.again others);
+})
+in_body line lines closed fails (left_open is c) = left_open is (closed lines lines c)
+
 pub split : {bound depth : ℕ} {braced : Bool} {lines : List Line} {at : Line} {cause : Cause} → Fails bound depth braced lines at cause → Split bound depth braced lines at cause
 split {bound} {depth} {braced} (misfit {cause = cause} line rest e b) = misfits (record {
   front = [];
@@ -93,44 +120,10 @@ split {bound} {depth} {braced} (misfit {cause = cause} line rest e b) = misfits 
   because = b;
   again = λ others. misfit line others e b;
 })
-split (open_run line values e b i) = left_open refl (record {
-  closers = the_close ∷ [];
-  close = ap (λ v. v && true) the_close-closes;
-  items = _;
-  stands = stands_one line (values ++ the_close ∷ []) e (braced_run values the_close b i the_close-closes);
-  head = λ _ _ h. h;
-})
-split (open_items line block e b s) = left_open refl (record {
-  closers = the_close ∷ [];
-  close = ap (λ v. v && true) the_close-closes;
-  items = _;
-  stands = stands_one line (block ++ the_close ∷ []) e (enclosed block the_close b s the_close-closes);
-  head = λ _ _ h. h;
-})
-split (in_indented line lines e b f) = elim (split f) [
-  | misfits m ↦ misfits (record {
-    front = line ∷ m.front;
-    rest = m.rest;
-    whole = ap (λ v. line ∷ v) m.whole;
-    closing = in_section line m.front _ e b m.closing;
-    inner = m.inner;
-    because = m.because;
-    again = λ others. in_indented line _ e b (m.again others);
-  })
-  | left_open is c ↦ left_open is (in_section line lines lines e b c)
-]
-split (in_enclosed line lines e b f) = elim (split f) [
-  | misfits m ↦ misfits (record {
-    front = line ∷ m.front;
-    rest = m.rest;
-    whole = ap (λ v. line ∷ v) m.whole;
-    closing = in_braces line m.front _ e b m.closing;
-    inner = m.inner;
-    because = m.because;
-    again = λ others. in_enclosed line _ e b (m.again others);
-  })
-  | left_open is c ↦ left_open is (in_braces line lines lines e b c)
-]
+split (open_run line values e b i) = left_open refl (one_open line values e (braced_run values the_close b i the_close-closes))
+split (open_items line block e b s) = left_open refl (one_open line block e (enclosed block the_close b s the_close-closes))
+split (in_indented line lines e b f) = in_body line lines (λ front whole. in_section line front whole e b) (λ others. in_indented line others e b) (split f)
+split (in_enclosed line lines e b f) = in_body line lines (λ front whole. in_braces line front whole e b) (λ others. in_enclosed line others e b) (split f)
 split {bound} {depth} {braced} (later {at = at} {cause = cause} line block rest e b f) = elim (split f) [
   | misfits m ↦ misfits (record {
     front = line ∷ block ++ m.front;
