@@ -73,22 +73,27 @@ pub record IsOutward (d : Description) (dep : Dep) : Type 0 where
   pub external_is : not guarded.dep.internal ≡ true
   pub dep_is : guarded.dep ≡ dep
 
-flat-outward : (env : Env) (d : Description) (flat : FlatDep) → Contains (demands_of env d) flat → IsOutward d flat.dep
-flat-outward env d flat h =
-    let at = contains-flat_map (demands_at env) (outward d) flat h in
-    let path = contains-map (flat_of at.0.component.kind at.0.guarded.dep) (clean_paths (paths_at env at.0)) flat at.2 in
-    let component = contains-flat_map outward_in d.components at.0 at.1 in
-    let guarded = contains-map (outward_of component.0) (external component.0.build.deps) at.0 component.2 in
+-- each dependency that the description lists with its conditions is one of a component
+pub outward-at : (d : Description) (at : ExternalDep) → Contains (outward d) at → IsOutward d at.guarded.dep
+outward-at d at h =
+    let component = contains-flat_map outward_in d.components at h in
+    let guarded = contains-map (outward_of component.0) (external component.0.build.deps) at component.2 in
     let kept = contains-filter (λ (g : GuardedDep). not g.dep.internal) component.0.build.deps guarded.0 guarded.1 in
     record {
       component = component.0;
       guarded = guarded.0;
       in_components = component.1;
       in_deps = kept.0;
-      is_outward = subst (λ o. Contains (outward d) o) (sym guarded.2) at.1;
+      is_outward = subst (λ o. Contains (outward d) o) (sym guarded.2) h;
       external_is = kept.1;
-      dep_is = ap (λ (o : ExternalDep). o.guarded.dep) guarded.2 ∙ ap (λ (f : FlatDep). f.dep) path.2;
+      dep_is = ap (λ (o : ExternalDep). o.guarded.dep) guarded.2;
     }
+
+flat-outward : (env : Env) (d : Description) (flat : FlatDep) → Contains (demands_of env d) flat → IsOutward d flat.dep
+flat-outward env d flat h =
+    let at = contains-flat_map (demands_at env) (outward d) flat h in
+    let path = contains-map (flat_of at.0.component.kind at.0.guarded.dep) (clean_paths (paths_at env at.0)) flat at.2 in
+    subst (IsOutward d) (ap (λ (f : FlatDep). f.dep) path.2) (outward-at d at.0 at.1)
 
 pub in-component-deps : (d : Description) (component : Component) (guarded : GuardedDep) → Contains d.components component → Contains component.build.deps guarded → Contains (component_deps d) guarded.dep
 in-component-deps d component guarded h k =

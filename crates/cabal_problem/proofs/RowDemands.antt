@@ -4,22 +4,26 @@ use Rattle.std.specs.List.{filter, list_all}
 use Rattle.plan_types.specs.declared.dependency.Dep.{Dep}
 use Rattle.plan_types.specs.declared.dependency.DepKind.TheVariants as kind
 use Rattle.plan_types.specs.declared.description.FlagDecl.{FlagDecl}
-use Rattle.plan_types.specs.declared.index.Body.TheVariants.{Source as SourceBody}
+use Rattle.plan_types.specs.declared.index.Body.TheVariants.{Source as SourceBody, Installed}
+use Rattle.plan_types.specs.declared.index.Body.{Body}
 use Rattle.plan_types.specs.declared.index.FlatDep.{FlatDep}
 use Rattle.plan_types.specs.declared.index.Literal.{Literal}
 use Rattle.plan_types.specs.declared.index.Package.{Package}
 use Rattle.plan_types.specs.declared.index.PartName.{PartName}
 use Rattle.plan_types.specs.declared.index.PartName.TheVariants as literal
 use Rattle.plan_types.specs.declared.index.Source.{Source}
+use Rattle.plan_types.specs.declared.index.UnitRecord.{UnitRecord}
 use Rattle.plan_types.specs.declared.project.Project.{Project}
 use Rattle.plan_types.specs.declared.version.Version.{Version}
 use Rattle.qualified_goals.specs.declared.variable.Part.TheVariants.{Tests, Benches}
 use Rattle.qualified_goals.specs.Names.{Name, NameTable}
 use Rattle.choice_problem.specs.declared.problem.Choice.{Choice}
+use Rattle.solver_index.specs.declared.dependencies.Dependencies.{Dependencies}
+use Rattle.solver_index.specs.declared.dependencies.UnitNeed.{UnitNeed}
 use Rattle.solver_index.specs.Dependencies.{body_dependencies, conditional_dep, dep_target, need_at, part_of, setting_of}
 use Rattle.solver_index.specs.Places.{flag_number, rising}
 use Rattle.cabal_problem.specs.Variables.{has_kind, is_benchmark, is_suite}
-use Rattle.cabal_problem.specs.ListedDemands.{can_count, dep_demand, flag_demand, flat_demand, flat_demands, has_part, has_stanzas, setup_demands, setup_if, source_demands, stanza_if, unit_demands, when_of}
+use Rattle.cabal_problem.specs.ListedDemands.{body_demands, can_count, dep_demand, flag_demand, flat_demand, flat_demands, has_part, has_stanzas, setup_demands, setup_if, source_demands, stanza_if, unit_demands, when_of}
 use Rattle.cabal_problem.specs.Rows.{can_be_set, choice_at, dep_row, flag_row, has_variable, in_pairs, need_demand, setup_demand_to, source_rows, target_demand}
 use Rattle.common_laws.specs.Lists.{map-map}
 use Rattle.std.proofs.lemmas.List.{append-nil}
@@ -86,7 +90,7 @@ module _ (packages : List Package) (project : Project) (names : NameTable) (owne
   flags-are : (flags : List FlagDecl) → in_pairs (flag_row project names owner) flags (map (λ (decl : FlagDecl). flag_number names decl.name) flags) ≡ map (flag_demand project names owner) flags
   flags-are flags = pairs-one (flag_row project names owner) (λ (decl : FlagDecl). flag_number names decl.name) (flag_demand project names owner) flags (λ decl. refl)
 
-  pub source-is : (source : Source)
+  source-is : (source : Source)
       → source_rows packages project names owner (body_dependencies packages names allows (SourceBody source)) source.description ≡ source_demands packages project names owner allows source.description source.flat
   source-is source =
       let d = source.description in
@@ -94,5 +98,18 @@ module _ (packages : List Package) (project : Project) (names : NameTable) (owne
       let benches = stanza_if (has_stanzas packages owner.var && has_kind is_benchmark d) owner Benches in
       λ i. flags-are d.flags i ++ tests ++ benches ++ deps-are source.flat i ++ setup_if d.custom (setup-are d.setup i)
 
-  pub units-are : (ids needs : List Name) → map (need_demand owner) (map (need_at packages names ids needs) (rising (length needs))) ≡ unit_demands packages names owner ids needs
+  units-are : (ids needs : List Name) → map (need_demand owner) (map (need_at packages names ids needs) (rising (length needs))) ≡ unit_demands packages names owner ids needs
   units-are ids needs = map-map (need_at packages names ids needs) (need_demand owner) (rising (length needs))
+
+  -- the rows of an instance that depends on what its body says
+  pub source-rows : (body : Body) (source : Source) (a : Dependencies) → a ≡ body_dependencies packages names allows body → body ≡ SourceBody source
+      → source_rows packages project names owner a source.description ≡ body_demands packages project names owner allows body
+  source-rows body source a depends is =
+      ap (λ (x : Dependencies). source_rows packages project names owner x source.description) (depends ∙ ap (body_dependencies packages names allows) is)
+      ∙ source-is source ∙ sym (ap (body_demands packages project names owner allows) is)
+
+  pub unit-rows : (body : Body) (unit : UnitRecord) (on : List Name) (a : Dependencies) (needs : List UnitNeed) → a ≡ body_dependencies packages names allows body → body ≡ Installed unit on
+      → needs ≡ a.needs → map (need_demand owner) needs ≡ body_demands packages project names owner allows body
+  unit-rows body unit on a needs depends is needs-are =
+      ap (λ (l : List UnitNeed). map (need_demand owner) l) (needs-are ∙ ap (λ (x : Dependencies). x.needs) (depends ∙ ap (body_dependencies packages names allows) is))
+      ∙ units-are unit.depends on ∙ sym (ap (body_demands packages project names owner allows) is)

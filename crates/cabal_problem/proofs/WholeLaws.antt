@@ -1,5 +1,5 @@
 -- The problem with whole conditions is lawful.
-use Rattle.std.proofs.Common.{◌≡◌, ℕ, ◌<◌, Bool, true, false, not, ◌&&◌, List, ◌++◌, length, map, refl, sym, ap, ◌∙◌, subst, inl, inr}
+use Rattle.std.proofs.Common.{◌≡◌, ℕ, ◌<◌, Bool, true, false, ◌&&◌, List, ◌++◌, length, map, refl, sym, ap, ◌∙◌, subst, inl, inr}
 use Rattle.std.specs.Prelude.{Contains}
 use Rattle.std.specs.List.{filter, list_all}
 use Rattle.std.proofs.lemmas.Bool.{and_parts}
@@ -7,8 +7,6 @@ use Rattle.std.proofs.lemmas.List.Elements.{All-contains, Contains-get_or}
 use Rattle.plan_types.specs.declared.condition.Env.{Env}
 use Rattle.plan_types.specs.declared.dependency.Dep.{Dep}
 use Rattle.plan_types.specs.declared.dependency.DepKind.TheVariants as kind
-use Rattle.plan_types.specs.declared.description.Description.{Description}
-use Rattle.plan_types.specs.Guarded.{GuardedDep}
 use Rattle.plan_types.specs.declared.index.Body.{Body}
 use Rattle.plan_types.specs.declared.index.Body.TheVariants.{Source as SourceBody, Installed}
 use Rattle.plan_types.specs.declared.index.Entry.{Entry}
@@ -21,7 +19,7 @@ use Rattle.conditionals.specs.Paths.{is_wanted}
 use Rattle.conditionals.specs.Value.{value}
 use Rattle.flatten.specs.WholeCondition.{whole_condition}
 use Rattle.flatten.specs.Counting.{are_met, flags_of}
-use Rattle.flatten.specs.Demands.{ExternalDep, outward, outward_in, outward_of, external, stanza_of}
+use Rattle.flatten.specs.Demands.{ExternalDep, outward, stanza_of}
 use Rattle.flatten.specs.Sound.{IsSound, IsSource, IsBody, component_deps, is_of_components}
 use Rattle.qualified_goals.specs.declared.variable.Qual.TheVariants.{Setup}
 use Rattle.qualified_goals.specs.declared.variable.Part.{Part}
@@ -32,7 +30,7 @@ use Rattle.choice_problem.specs.declared.problem.Demand.{Demand}
 use Rattle.choice_problem.specs.Assignment.{is_made}
 use Rattle.choice_problem.specs.Problem.{IsChoice, IsOwned, IsRoot, Lawful}
 use Rattle.choice_problem.specs.General.{Request, General, LawfulGeneral, IsOwnedRequest, IsRootRequest, owner_of, request_of}
-use Rattle.common_laws.specs.Lists.{contains-none, contains-append, contains-left, contains-map, contains-filter, contains-flat_map, all-at, any-from, all-where}
+use Rattle.common_laws.specs.Lists.{contains-none, contains-append, contains-left, contains-map, contains-filter, all-at, any-from, all-where}
 use Rattle.solver_index.specs.AllowedVersions.{allowed_versions}
 use Rattle.solver_index.specs.Places.{entry_at, no_entry}
 use Rattle.cabal_problem.specs.Variables.{domain_of, is_custom, is_qual}
@@ -41,24 +39,9 @@ use Rattle.cabal_problem.specs.Laws.{known-below, known-qual, target-known}
 use Rattle.cabal_problem.specs.Lawful.{is_lawful}
 use Rattle.cabal_problem.specs.Problem.{problem_of}
 use Rattle.cabal_problem.specs.WholeDemands.{body_requests, has_stanza_variable, front_demands, part_requests, parts_under, requests_of, setup_request, setup_requests, whole_problem, whole_request}
-use Rattle.cabal_problem.proofs.Findings.{IsOutward, entry-sound, in-component-deps, kind-found, outward-package, package-found, setup-found}
+use Rattle.cabal_problem.proofs.Findings.{entry-sound, in-component-deps, kind-found, outward-at, outward-package, package-found, setup-found}
 use Rattle.choice_problem.proofs.TrailLemmas.{is_made-is}
 use Rattle.plan_types.specs.Packages.{entries_of}
-
-outward-at : (d : Description) (at : ExternalDep) → Contains (outward d) at → IsOutward d at.guarded.dep
-outward-at d at h =
-    let component = contains-flat_map outward_in d.components at h in
-    let guarded = contains-map (outward_of component.0) (external component.0.build.deps) at component.2 in
-    let kept = contains-filter (λ (g : GuardedDep). not g.dep.internal) component.0.build.deps guarded.0 guarded.1 in
-    record {
-      component = component.0;
-      guarded = guarded.0;
-      in_components = component.1;
-      in_deps = kept.0;
-      is_outward = subst (λ o. Contains (outward d) o) (sym guarded.2) h;
-      external_is = kept.1;
-      dep_is = ap (λ (o : ExternalDep). o.guarded.dep) guarded.2;
-    }
 
 module _ (env : Env) (index : Index) (project : Project) (names : NameTable) (orders : List (List ℕ))
     (sound : IsSound env index) (numbers : AreNumbers index.packages names) (is_lawful_problem : Lawful (problem_of index.packages project names orders)) where

@@ -10,12 +10,11 @@ use Rattle.plan_types.specs.declared.index.Body.{Body}
 use Rattle.plan_types.specs.declared.index.Body.TheVariants.{Source, Installed}
 use Rattle.plan_types.specs.declared.index.Origin.TheVariants as origin
 use Rattle.plan_types.specs.declared.index.Package.{Package}
-use Rattle.plan_types.specs.declared.limit.Limit.TheVariants.{Unlimited}
-use Rattle.plan_types.specs.declared.project.Project.{Project}
 use Rattle.plan_types.specs.declared.range.Spec.TheVariants.{V3_0}
 use Rattle.qualified_goals.specs.declared.variable.Qual.TheVariants.{Top, Setup, Exe}
 use Rattle.qualified_goals.specs.declared.variable.Part.TheVariants.{Package as ThePackage, Flag, Tests}
 use Rattle.qualified_goals.specs.Names.{NameTable}
+use Rattle.constraint_set.specs.Examples.{plain_project}
 use Rattle.cabal_problem.specs.Variables.{is_qual, is_known, domain_of}
 use Rattle.qualified_goals.specs.declared.variable.Var.{Var}
 use Rattle.choice_problem.specs.declared.problem.Choice.{Choice}
@@ -68,22 +67,6 @@ packages =
 abbrev names : NameTable
 names = record { packages = codes "base" ∷ codes "main" ∷ []; flags = codes "fast" ∷ [] }
 
-abbrev project : Project
-project = record {
-  entries = [];
-  extra = [];
-  constraints = [];
-  preferences = [];
-  newer = [];
-  older = [];
-  tests = false;
-  benchmarks = false;
-  limit = Unlimited;
-  prefer_oldest = false;
-  boot_installs = false;
-  warnings = [];
-}
-
 -- main has a setup script, base hasn't, and neither depends on a tool
 a-setup : is_qual packages names (Setup 1) ≡ true
 a-setup = refl
@@ -129,10 +112,10 @@ on-before-off : order_of packages names [] Top 1 Tests [] ≡ 1 ∷ 0 ∷ []
 on-before-off = refl
 
 -- a manual flag has only its default
-manual : flag_values project names (record { qual = Top; «package» = 1; part = Flag 0 }) (fast true) ≡ 1 ∷ []
+manual : flag_values plain_project names (record { qual = Top; «package» = 1; part = Flag 0 }) (fast true) ≡ 1 ∷ []
 manual = refl
 
-automatic : flag_values project names (record { qual = Top; «package» = 1; part = Flag 0 }) (fast false) ≡ 0 ∷ 1 ∷ []
+automatic : flag_values plain_project names (record { qual = Top; «package» = 1; part = Flag 0 }) (fast false) ≡ 0 ∷ 1 ∷ []
 automatic = refl
 
 -- the unit with this id, and nothing for a local package

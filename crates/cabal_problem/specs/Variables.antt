@@ -64,21 +64,21 @@ is_qual packages names (Exe p t) = list_any (λ e. depends_on_tool names t e.bod
 abbrev pub declares : NameTable → ℕ → Body → Bool
 declares names f body = list_any (λ decl. is_number (number_of names.flags decl.name) f) (declared_by body)
 
+-- an answer for test suites and one for benchmarks; for all other components it is no
+abbrev pub by_stanza : Bool → Bool → CompKind → Bool
+by_stanza suite benchmark kind.Library = false
+by_stanza suite benchmark kind.Executable = false
+by_stanza suite benchmark kind.Test = suite
+by_stanza suite benchmark kind.Bench = benchmark
+by_stanza suite benchmark kind.Foreign = false
+
 -- whether a component is a test suite
 abbrev pub is_suite : CompKind → Bool
-is_suite kind.Library = false
-is_suite kind.Executable = false
-is_suite kind.Test = true
-is_suite kind.Bench = false
-is_suite kind.Foreign = false
+is_suite = by_stanza true false
 
 -- whether a component is a benchmark
 abbrev pub is_benchmark : CompKind → Bool
-is_benchmark kind.Library = false
-is_benchmark kind.Executable = false
-is_benchmark kind.Test = false
-is_benchmark kind.Bench = true
-is_benchmark kind.Foreign = false
+is_benchmark = by_stanza false true
 
 -- whether a description has a component of this kind
 abbrev pub has_kind : (CompKind → Bool) → Description → Bool

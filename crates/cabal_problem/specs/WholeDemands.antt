@@ -23,6 +23,7 @@ use Rattle.choice_problem.specs.declared.problem.Choice.{Choice}
 use Rattle.choice_problem.specs.declared.problem.Demand.{Demand}
 use Rattle.choice_problem.specs.Assignment.{Assignment, is_made}
 use Rattle.choice_problem.specs.General.{Request, General, request_of}
+use Rattle.choice_problem.specs.Valid.{IsWholeValid}
 use Rattle.solver_index.specs.Places.{entry_at, number}
 use Rattle.cabal_problem.specs.Variables.{has_kind, is_known, is_suite, is_benchmark, domain_of}
 use Rattle.cabal_problem.specs.Values.{order_of}
@@ -129,3 +130,7 @@ whole_problem env packages project names orders = record {
   barred = λ c. barred_part packages project names c c.var.part;
   demands = whole_demands env packages project names;
 }
+
+-- whether an assignment is complete and valid for it
+abbrev pub IsWholeAssignment : Env → List Package → Project → NameTable → List (List ℕ) → Assignment → Type 0
+IsWholeAssignment env packages project names orders assignment = IsWholeValid (whole_problem env packages project names orders) assignment

@@ -21,6 +21,7 @@ use choice_problem::{Choice, Choices, Demand, Part, Qual, Trail, Var};
 use constraint_set::Constraints;
 use plan_types::{
     Body, Description, Entry, FlagDecl, Index, Instance, List, NoMemory, Package, Settings,
+    drop_fields,
 };
 use qualified_goals::Names;
 use solver_index::{Dependencies, Tables};
@@ -40,16 +41,9 @@ pub struct CabalProblem<'a> {
     ghost dependencies: { tables.dependencies ≡ all_dependencies index.now.packages settings.now.project names },
 }
 
-// Explicit, so that it is proved once: a derived one is expanded at each exit.
 impl<'a> Drop for CabalProblem<'a> {
     fn drop(self) {
-        let CabalProblem {
-            index: _index,
-            settings: _settings,
-            names: _names,
-            constraints: _constraints,
-            tables: _tables,
-        } = self;
+        drop_fields!(self; index, settings, names, constraints, tables);
     }
 }
 

@@ -212,19 +212,15 @@ fn body_has_benchmark(body: &Body) -> bool
 pub(crate) fn has_suite(d: &Description) -> bool
     ensures { result ≡ has_kind is_suite d.now }
 {
-    d.components
-        .as_slice()
-        .iter()
-        .any(|component| is_suite(component.kind))
+    let components = d.components.as_slice();
+    components.iter().any(|component| is_suite(component.kind))
 }
 
 pub(crate) fn has_benchmark(d: &Description) -> bool
     ensures { result ≡ has_kind is_benchmark d.now }
 {
-    d.components
-        .as_slice()
-        .iter()
-        .any(|component| is_benchmark(component.kind))
+    let components = d.components.as_slice();
+    components.iter().any(|component| is_benchmark(component.kind))
 }
 
 fn is_suite(kind: CompKind) -> bool
