@@ -36,6 +36,20 @@ together-back g h same = record {
   back = same.there;
 }
 
+-- an assignment comes before another also in a problem with the same trails of both and the same order
+pub before-over : (g h : General) (A B : Assignment) → trail_of h A ≡ trail_of g A → trail_of h B ≡ trail_of g B → g.order ≡ h.order → ComesBefore g A B → ComesBefore h A B
+before-over g h A B same_A same_B order before = record {
+  common = before.common;
+  var = before.var;
+  of_A = before.of_A;
+  of_B = before.of_B;
+  rest_of_A = before.rest_of_A;
+  rest_of_B = before.rest_of_B;
+  trail_of_A = same_A ∙ before.trail_of_A;
+  trail_of_B = same_B ∙ before.trail_of_B;
+  earlier = subst (λ (order : Var → List Choice → List ℕ). IsEarlier (order before.var before.common) before.of_A before.of_B) order before.earlier;
+}
+
 -- one direction
 
 module _ (g h : General) (same : AreYesTogether g h) where
@@ -126,17 +140,7 @@ module _ (g h : General) (lawful_g : LawfulGeneral g) (lawful_h : LawfulGeneral 
   }
 
   before-there : (A B : Assignment) → IsAssignmentIn g g.known A → IsAssignmentIn g g.known B → ComesBefore g A B → ComesBefore h A B
-  before-there A B is_A is_B before = record {
-    common = before.common;
-    var = before.var;
-    of_A = before.of_A;
-    of_B = before.of_B;
-    rest_of_A = before.rest_of_A;
-    rest_of_B = before.rest_of_B;
-    trail_of_A = sym (trails-alike A is_A) ∙ before.trail_of_A;
-    trail_of_B = sym (trails-alike B is_B) ∙ before.trail_of_B;
-    earlier = subst (λ (order : Var → List Choice → List ℕ). IsEarlier (order before.var before.common) before.of_A before.of_B) same.order before.earlier;
-  }
+  before-there A B is_A is_B = before-over g h A B (sym (trails-alike A is_A)) (sym (trails-alike B is_B)) same.order
 
 -- both directions
 

@@ -5,7 +5,7 @@ ghost use Rattle.choice_problem.specs.Table.{entry, with_entry, without_entry};
 
 use crate::Var;
 use indexmap::IndexMap;
-use plan_types::NoMemory;
+use plan_types::{NoMemory, drop_fields};
 use std::alloc::Global;
 use std::marker::Model;
 
@@ -14,10 +14,9 @@ pub struct Table {
     entries: IndexMap<Var, u64>,
 }
 
-// Explicit, so that it is proved once: a derived one is expanded at each exit.
 impl Drop for Table {
     fn drop(self) {
-        let Table { entries: _entries } = self;
+        drop_fields!(self; entries);
     }
 }
 

@@ -10,7 +10,7 @@ use crate::table::Table;
 use crate::{Choice, Var};
 use indexmap::IndexMap;
 use keyed_lists::{Lists, items_at, pop_at, push_at};
-use plan_types::{List, NoMemory};
+use plan_types::{List, NoMemory, drop_fields};
 use qualified_goals::Part;
 use std::alloc::Global;
 use std::marker::Model;
@@ -23,14 +23,9 @@ pub struct Trail {
     instances: Lists<u64, Choice>,
 }
 
-// Explicit, so that it is proved once: a derived one is expanded at each exit.
 impl Drop for Trail {
     fn drop(self) {
-        let Trail {
-            choices: _choices,
-            values: _values,
-            instances: _instances,
-        } = self;
+        drop_fields!(self; choices, values, instances);
     }
 }
 

@@ -1,5 +1,5 @@
 // Problems as lists.
-ghost use Rattle.std.specs.Prelude.{◌≡◌, ◌&&◌, IfOk, IsTrue, MatchOption, filter, length, nat_lt};
+ghost use Rattle.std.specs.Prelude.{◌≡◌, ◌&&◌, [], IfOk, IsTrue, MatchOption, filter, length, nat_lt};
 ghost use Rattle.std.specs.List.{list_all};
 ghost use Rattle.choice_problem.specs.Written.{is_among, is_listed, order_of, barred_of, begins_with, problem_of};
 ghost use Rattle.choice_problem.specs.Written.{has_each_below, is_once, is_order, are_listed_once, is_beside, is_empty};
@@ -23,26 +23,34 @@ fn listed(variables: &[WrittenVar], v: Var) -> bool
     variables.iter().any(|w| is_same(w.var, v))
 }
 
-fn order_in(variables: &[WrittenVar], v: Var) -> &[u64]
-    ensures { result.now ≡ order_of variables.now v }
+fn written_var(variables: &[WrittenVar], v: Var) -> Option<&WrittenVar>
+    ensures { MatchOption result ((order_of variables.now v ≡ []) × (barred_of variables.now v ≡ []))
+        (λ w. (order_of variables.now v ≡ w.now.order) × (barred_of variables.now v ≡ w.now.barred)) }
 {
     for w in variables {
         if is_same(w.var, v) {
-            return w.order.as_slice();
+            return Some(w);
         }
     }
-    &[]
+    None
+}
+
+fn order_in(variables: &[WrittenVar], v: Var) -> &[u64]
+    ensures { result.now ≡ order_of variables.now v }
+{
+    match written_var(variables, v) {
+        Some(w) => w.order.as_slice(),
+        None => &[],
+    }
 }
 
 fn barred_in(variables: &[WrittenVar], v: Var) -> &[u64]
     ensures { result.now ≡ barred_of variables.now v }
 {
-    for w in variables {
-        if is_same(w.var, v) {
-            return w.barred.as_slice();
-        }
+    match written_var(variables, v) {
+        Some(w) => w.barred.as_slice(),
+        None => &[],
     }
-    &[]
 }
 
 fn starts(demand: &Demand, owner: Choice) -> bool
