@@ -66,7 +66,7 @@ naming-owner : (d : Demand) (e : Edge) (v : Var) → IsOwner d e → e.from ≡ 
 naming-owner d e v owns leaves =
     ap (are_naming v) owns.condition ∙ ap (λ b. b || are_naming v owns.others) (ap (λ u. same_var u v) (owns.from ∙ leaves) ∙ same_var-refl v)
 
-pub sources-edge : (listed : List Demand) (ms : List Mention) (to v : Var) → AreTargets listed ms → Contains (owners_of (demands_at listed (places_on to ms))) v → HasEdge (edges_of (demands_at listed (places_of ms))) v to
+sources-edge : (listed : List Demand) (ms : List Mention) (to v : Var) → AreTargets listed ms → Contains (owners_of (demands_at listed (places_on to ms))) v → HasEdge (edges_of (demands_at listed (places_of ms))) v to
 sources-edge listed ms to v h k =
     let all = demands_at listed (places_of ms) in
     let found = contains-flat_map (λ d. option_to_list (owner_of d)) (demands_at listed (places_on to ms)) v k in
@@ -74,7 +74,7 @@ sources-edge listed ms to v h k =
     let mine : Edge = record { from = v; to = found.0.target } in
     (mine, flat_map-contains edges_by all found.0 mine among.0 (edge-of-owner found.0.when found.0 v refl found.2), refl, same_var-is found.0.target to among.1)
 
-pub edge-sources : (listed : List Demand) (ms : List Mention) (to v : Var) → AreTargets listed ms → HasEdge (edges_of (demands_at listed (places_of ms))) v to → Contains (owners_of (demands_at listed (places_on to ms))) v
+edge-sources : (listed : List Demand) (ms : List Mention) (to v : Var) → AreTargets listed ms → HasEdge (edges_of (demands_at listed (places_of ms))) v to → Contains (owners_of (demands_at listed (places_on to ms))) v
 edge-sources listed ms to v h (e, within, from, target) =
     let all = demands_at listed (places_of ms) in
     let found = contains-flat_map edges_by all e within in
@@ -84,6 +84,18 @@ edge-sources listed ms to v h (e, within, from, target) =
     flat_map-contains (λ d. option_to_list (owner_of d)) (demands_at listed (places_on to ms)) found.0 v
     (subst (λ ds. Contains ds found.0) (sym (demands-on listed to ms h)) (filter-contains (asks_for to) all found.0 found.1 asked))
     (subst (λ o. Contains (option_to_list o) v) (sym owner) (contains-head v []))
+
+-- the owners of the demands at the places on a variable are its sources
+pub sources-at : (listed now : List Demand) (ms : List Mention) (places : List ℕ) (to : Var) (found : List Var) (active : List Demand) → AreTargets listed ms
+    → found ≡ owners_of (demands_at now places) → now ≡ listed → places ≡ places_on to ms → demands_at listed (places_of ms) ≡ active
+    → (v : Var) → (Contains found v) ↔ (HasEdge (edges_of active) v to)
+sources-at listed now ms places to found active targets is same on active_is v =
+    let owners : found ≡ owners_of (demands_at listed (places_on to ms)) =
+    is ∙ ap (λ (ds : List Demand). owners_of (demands_at ds places)) same ∙ ap (λ (ps : List ℕ). owners_of (demands_at listed ps)) on in (
+      λ h. subst (λ (ds : List Demand). HasEdge (edges_of ds) v to) active_is (sources-edge listed ms to v targets (subst (λ (vs : List Var). Contains vs v) owners h)),
+      λ h. subst (λ (vs : List Var). Contains vs v) (sym owners)
+          (edge-sources listed ms to v targets (subst (λ (ds : List Demand). HasEdge (edges_of ds) v to) (sym active_is) h)),
+    )
 
 -- the variables that listed demands wait for
 

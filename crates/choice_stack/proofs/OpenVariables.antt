@@ -43,61 +43,62 @@ row-order s t keep h = record {
   known = λ v k. keep.known v (h.known v (ap (λ (l : List Var). has l v) (sym keep.linked) ∙ k));
 }
 
-pub row-kept : (s t : Entries) → KeepRow s t → StayKept any_var s t
-row-kept s t keep n v sides test k = record { owned = keep.vars n v k.owned; held = keep.kept n (Some sides) k.held }
+pub row-kept : (s t u : Entries) → s ≡ u → KeepRow s t → StayKept any_var u t
+row-kept s t u is keep = subst (λ (x : Entries). StayKept any_var x t) is (λ n v sides test k. record { owned = keep.vars n v k.owned; held = keep.kept n (Some sides) k.held })
 
 -- linked
 
-module _ (s : Entries) (n : ℕ) (within : n < length s.vars) where
-  pub linked-has : (u : Var) → has (linked s n).linked u ≡ (same_var (var_at s.vars n) u || has s.linked u)
-  linked-has u = has-with_var (var_at s.vars n) s.linked u
+module _ (s t : Entries) (n : ℕ) (within : n < length s.vars) (is : t ≡ linked s n) where
+  pub linked-has : (u : Var) → has t.linked u ≡ (same_var (var_at s.vars n) u || has s.linked u)
+  linked-has u = ap (λ (x : Entries). has x.linked u) is ∙ has-with_var (var_at s.vars n) s.linked u
 
-  pub linked-kept : StayKept (is_other (var_at s.vars n)) s (linked s n)
-  linked-kept m w sides other k = record {
+  pub linked-kept : StayKept (is_other (var_at s.vars n)) s t
+  linked-kept = subst (λ (x : Entries). StayKept (is_other (var_at s.vars n)) s x) (sym is) (λ m w sides other k. record {
     owned = k.owned;
     held = get-other s.kept n m None (Some sides) (λ e.
         let same : var_at s.vars n ≡ w = at-entry s.vars n w (subst (λ i. slice_get s.vars i ≡ Some w) e k.owned) in
         false≢true (sym (ap not (ap (same_var (var_at s.vars n)) (sym same) ∙ same_var-refl (var_at s.vars n))) ∙ other)) k.held;
-  }
+  })
 
-  pub linked-order : AreInOrder s → AreInOrder (linked s n)
-  linked-order h = record {
+  pub linked-order : AreInOrder s → AreInOrder t
+  linked-order h = subst AreInOrder (sym is) (record {
     rising = rising-with_var (var_at s.vars n) s.linked h.rising;
     known = λ u k.
         elim (same_var (var_at s.vars n) u) as (λ b. same_var (var_at s.vars n) u ≡ b → b || has s.linked u ≡ true → has s.vars u ≡ true) [
           | true ↦ λ e j. ap (has s.vars) (sym (same_var-is (var_at s.vars n) u e)) ∙ entry-known s.vars n (var_at s.vars n) (get-at s.vars n within)
           | false ↦ λ e j. h.known u j
-        ] refl (sym (linked-has u) ∙ k);
-  }
+        ] refl (sym (has-with_var (var_at s.vars n) s.linked u) ∙ k);
+  })
 
-  -- unlinked
+-- unlinked
 
-  pub taken-has : (u : Var) → has (unlinked s n).linked u ≡ (is_other (var_at s.vars n) u && has s.linked u)
-  taken-has u = has-without (var_at s.vars n) s.linked u
+module _ (s t : Entries) (n : ℕ) (within : n < length s.vars) (is : t ≡ unlinked s n) where
+  pub taken-has : (u : Var) → has t.linked u ≡ (is_other (var_at s.vars n) u && has s.linked u)
+  taken-has u = ap (λ (x : Entries). has x.linked u) is ∙ has-without (var_at s.vars n) s.linked u
 
-  pub taken-keeps : slice_get s.kept n ≡ Some None → Keeps (unlinked s n) n (var_at s.vars n) (beside (same_var (var_at s.vars n)) s.linked)
-  taken-keeps h = record {
+  pub taken-keeps : slice_get s.kept n ≡ Some None → Keeps t n (var_at s.vars n) (beside (same_var (var_at s.vars n)) s.linked)
+  taken-keeps h = subst (λ (x : Entries). Keeps x n (var_at s.vars n) (beside (same_var (var_at s.vars n)) s.linked)) (sym is) (record {
     owned = get-at s.vars n within;
     held = slice_get-set s.kept n (Some (beside (same_var (var_at s.vars n)) s.linked)) None h;
-  }
+  })
 
-  pub taken-kept : slice_get s.kept n ≡ Some None → StayKept any_var s (unlinked s n)
-  taken-kept h m w sides t k = record {
+  pub taken-kept : slice_get s.kept n ≡ Some None → StayKept any_var s t
+  taken-kept h = subst (λ (x : Entries). StayKept any_var s x) (sym is) (λ m w sides test k. record {
     owned = k.owned;
     held = get-other s.kept n m (Some (beside (same_var (var_at s.vars n)) s.linked)) (Some sides) (λ e.
         let at : slice_get s.kept n ≡ Some (Some sides) = subst (λ i. slice_get s.kept i ≡ Some (Some sides)) e k.held in
         let no : Some None ≡ Some (Some sides) = sym h ∙ at in
         cc no) k.held;
-  }
+  })
 
-  pub taken-order : AreInOrder s → AreInOrder (unlinked s n)
-  taken-order h = record {
+  pub taken-order : AreInOrder s → AreInOrder t
+  taken-order h = subst AreInOrder (sym is) (record {
     rising = rising-without (var_at s.vars n) s.linked h.rising;
     known = λ u k. h.known u (elim (is_other (var_at s.vars n) u) as (λ b. b && has s.linked u ≡ true → has s.linked u ≡ true) [
       | true ↦ λ j. j
       | false ↦ λ j. absurd (false≢true j)
-    ] (sym (taken-has u) ∙ k));
-  }
+    ] (sym (has-without (var_at s.vars n) s.linked u) ∙ k));
+  })
 
 -- relinked
 

@@ -26,7 +26,7 @@ use crate::growth::{activate, list_all, make_ready};
 use crate::picked::push_range;
 use choice_problem::{Choice, ConflictSet, Demand, Trail, Values, Var};
 use goal_links::Mentions;
-use plan_types::{List, NoMemory};
+use plan_types::{List, NoMemory, drop_fields};
 use std::alloc::Global;
 use std::marker::Model;
 
@@ -50,16 +50,9 @@ pub struct Stack {
     goals: Goals,
 }
 
-// Explicit, so that it is proved once: a derived one is expanded at each exit.
 impl Drop for Stack {
     fn drop(self) {
-        let Stack {
-            trail: _trail,
-            marks: _marks,
-            listed: _listed,
-            watchers: _watchers,
-            goals: _goals,
-        } = self;
+        drop_fields!(self; trail, marks, listed, watchers, goals);
     }
 }
 

@@ -1,16 +1,10 @@
-use Rattle.std.proofs.Common.{◌∙◌, ap, subst}
+use Rattle.std.proofs.Common.{ap}
 use Rattle.goal_links.specs.Mentions.{Mentioned}
-use Rattle.choice_stack.specs.Open.{StayKept, any_var}
 use Rattle.choice_stack.proofs.OpenVariables.{row-kept, row-order}
 use Rattle.choice_stack.proofs.goals.Goals.pop.Goals as goal
 
 pub invariant_of-self : goal.invariant_of-self
 invariant_of-self c = row-order c.self.inside.mentions.row c.pop.new.self.row c.pop.ensures.row c.self.invariant
 
-pub returns-clause-linked : goal.returns-clause-linked
-returns-clause-linked c = c.pop.ensures.row.linked ∙ ap (λ (m : Mentioned). m.row.linked) c.self.view_is
-
 pub returns-clause-kept : goal.returns-clause-kept
-returns-clause-kept c =
-    subst (λ (m : Mentioned). StayKept any_var m.row c.pop.new.self.row) c.self.view_is
-    (row-kept c.self.inside.mentions.row c.pop.new.self.row c.pop.ensures.row)
+returns-clause-kept c = row-kept c.self.inside.mentions.row c.pop.new.self.row c.args.self.now.row (ap (λ (m : Mentioned). m.row) c.self.view_is) c.pop.ensures.row
