@@ -1,6 +1,7 @@
 -- The parse of words that are a command and options.
 use Rattle.std.proofs.Common.{◌≡◌, ◌∙◌, ◌+◌, ◌≤◌, ◌&&◌, ◌||◌, ℕ, Bool, true, false, refl, sym, ap, ap₂, subst, arith, List, [], ◌∷◌, ◌++◌, map, Option, Some, None, codes, append-nil, append_assoc, cond}
 use Rattle.std.specs.List.{count_by, find, fold, list_all, list_any}
+use Rattle.std.proofs.lemmas.List.Folds.{list_any-append}
 use Rattle.std.proofs.lemmas.List.Sums.{fold-append, sum_by-append, sum_by-cons}
 use Rattle.std.specs.Option.{option_map, option_map_or}
 use Rattle.std.specs.Prelude.{is_some, option_and_then, slice_get}
@@ -380,21 +381,9 @@ some_found p test (x ∷ xs) h = go (p x) h (some_found p test xs)
     go true e more = refl
     go false e more = more e
 
-any_past : {X : Type 0} (p : X → Bool) (xs : List X) (x : X) → list_any p xs ≡ false → p x ≡ true → list_any p (xs ++ x ∷ []) ≡ true
-any_past p [] x none is = ap (λ b. b || false) is
-any_past p (y ∷ xs) x none is = go (p y) none (any_past p xs x)
-  where
-    go : (b : Bool) → (b || list_any p xs) ≡ false → (list_any p xs ≡ false → p x ≡ true → list_any p (xs ++ x ∷ []) ≡ true) → (b || list_any p (xs ++ x ∷ [])) ≡ true
-    go true e more = refl
-    go false e more = more e is
-
-none_more : {X : Type 0} (p : X → Bool) (xs : List X) (x : X) → list_any p xs ≡ false → p x ≡ false → list_any p (xs ++ x ∷ []) ≡ false
-none_more p [] x none is = ap (λ b. b || false) is
-none_more p (y ∷ xs) x none is = go (p y) none (none_more p xs x)
-  where
-    go : (b : Bool) → (b || list_any p xs) ≡ false → (list_any p xs ≡ false → p x ≡ false → list_any p (xs ++ x ∷ []) ≡ false) → (b || list_any p (xs ++ x ∷ [])) ≡ false
-    go true e more = e
-    go false e more = more e is
+-- where no item of a list passes a test, the item behind them decides
+last_decides : {X : Type 0} (p : X → Bool) (xs : List X) (x : X) (passes : Bool) → list_any p xs ≡ false → p x ≡ passes → list_any p (xs ++ x ∷ []) ≡ passes || false
+last_decides p xs x passes none is = list_any-append p xs (x ∷ []) ∙ ap (λ b. b || (p x || false)) none ∙ ap (λ b. b || false) is
 
 command_given : (command : CommandName) (before after : List Given) → is_given (codes "command") (with_flags (rows_around command before after)) ≡ true
 command_given command before after =
@@ -513,12 +502,12 @@ module _ (command : CommandName) (before after : List Given) where
             let fresh : has_row (name_of flag) rows ≡ false = ap (λ o. has_row (name_of o) rows) (one_option option flag e) ∙ none in
             ap (λ b. first_of (name_of option) (with_each others (cond b rows (rows ++ absent flag ∷ [])))) fresh
             ∙ ap (option_and_then (λ r. slice_get r.values 0))
-            (flags_kept p others (rows ++ absent flag ∷ []) (any_past p rows (absent flag) none e) ∙ find_past p rows (absent flag ∷ []) none)
+            (flags_kept p others (rows ++ absent flag ∷ []) (last_decides p rows (absent flag) true none e) ∙ find_past p rows (absent flag ∷ []) none)
             ∙ ap (λ b. option_and_then (λ r. slice_get r.values 0) (cond b (Some (absent flag)) None)) e
         | false ↦ λ e some_now.
             elim (has_row (name_of flag) rows) as (λ b. first_of (name_of option) (with_each others (cond b rows (rows ++ absent flag ∷ []))) ≡ Some (codes "false")) [
               | true ↦ absent_found option others rows some_now none
-              | false ↦ absent_found option others (rows ++ absent flag ∷ []) some_now (none_more p rows (absent flag) none e)
+              | false ↦ absent_found option others (rows ++ absent flag ∷ []) some_now (last_decides p rows (absent flag) false none e)
             ]
       ] refl some
 
