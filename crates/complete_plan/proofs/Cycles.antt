@@ -87,7 +87,7 @@ module _ (g : Given) where
       (body-sound g q p (Source source) (chosen-at g q p (Source source) at)).description.no_cycle c inside leads
 
   pub no-cycle : HasNoCycle IsNeeded
-  no-cycle node path = ⊎_elim (λ a. g.holds.acyclic (var_of node) a)
+  no-cycle node path = ⊎_elim (λ a. g.valid.whole_valid.holds.acyclic (var_of node) a)
       (λ i.
       let components = components_of (selection g) node in
       let same : i.to ≡ i.from = same_Some i.to i.from (sym i.to_is ∙ i.from_is) in

@@ -130,7 +130,7 @@ module _ (g : Given) (node : Node) (source : Source) (c : IsChosen g node.qual n
   described = (body-sound g q p body c).description
 
   abbrev target_of : Dep → ℕ
-  target_of dep = number (packages g) g.names dep.«package»
+  target_of dep = number (packages g) g.valid.names dep.«package»
 
   -- what is needed for a dependency is of the package under the qualifier that the dependency has
   needed-var : (dep : Dep) (need : Need) → Contains (dep_needs (selection g) node dep) need → package_var (qual_of_dep node dep (target_of dep)) (target_of dep) ≡ var_of need.node
@@ -142,7 +142,7 @@ module _ (g : Given) (node : Node) (source : Source) (c : IsChosen g node.qual n
 
   -- a dependency on another package that counts
   pub dep-edge : (component : Component) (guarded : GuardedDep) (need : Need) → Contains d.components component → is_asked (selection g) q p component.kind ≡ true
-      → Contains component.build.deps guarded → guarded.dep.internal ≡ false → condition_holds g.env (flags g q p source c) (whole_condition component guarded) ≡ true
+      → Contains component.build.deps guarded → guarded.dep.internal ≡ false → condition_holds g.valid.env (flags g q p source c) (whole_condition component guarded) ≡ true
       → Contains (dep_needs (selection g) node guarded.dep) need → PackageEdge g (var_of node) (var_of need.node)
   dep-edge component guarded need inside wanted dep_inside out counts_so h =
       let dep = guarded.dep in
@@ -151,14 +151,14 @@ module _ (g : Given) (node : Node) (source : Source) (c : IsChosen g node.qual n
       let made = chooser g q p source c in
       let known = parts g q p source c in
       let can = asked-kind g q p source c component.kind wanted in
-      let request = whole_request g.env (packages g) g.names made (allows g q p body c) in
+      let request = whole_request g.valid.env (packages g) g.valid.names made (allows g q p body c) in
       let stanzas = has_stanzas (packages g) made.var in
       let asked = from-deps g q p source c (request at)
       (map-contains request (filter (has_stanza_variable stanzas) (outward d)) at (filter-contains (has_stanza_variable stanzas) (outward d) at (outward-there d component guarded inside dep_inside out) can.has)) in
-      let is_yes = is_wanted true (value g.env (flags_of known) (whole_condition component guarded)) in
+      let is_yes = is_wanted true (value g.valid.env (flags_of known) (whole_condition component guarded)) in
       let counted = and_from (are_met known (stanza_of component.kind)) is_yes can.met
-      (yes-stays g.env (flag_in (flags g q p source c)) (flags_of known) (flags-kept g q p source c) (whole_condition component guarded) counts_so) in
-      let edge = edge-to g q p body c (request at) asked (and_from (is_made g.assignment made) (are_met known (stanza_of component.kind) && is_yes) (is_made-from g.assignment made c.value) counted) refl in
+      (yes-stays g.valid.env (flag_in (flags g q p source c)) (flags_of known) (flags-kept g q p source c) (whole_condition component guarded) counts_so) in
+      let edge = edge-to g q p body c (request at) asked (and_from (is_made g.valid.assignment made) (are_met known (stanza_of component.kind) && is_yes) (is_made-from g.valid.assignment made c.value) counted) refl in
       let under : qual_of_dep node dep t ≡ qual_for dep.kind (package_var q p) t = ap (λ b. if b then q else qual_for dep.kind (package_var q p) t) out in
       subst (PackageEdge g (var_of node)) (ap (λ k. package_var k t) (sym under) ∙ needed-var dep need h) edge
 
@@ -167,12 +167,12 @@ module _ (g : Given) (node : Node) (source : Source) (c : IsChosen g node.qual n
   setup-edge dep need custom inside h =
       let t = target_of dep in
       let made = chooser g q p source c in
-      let request = setup_request (packages g) g.names made (allows g q p body c) in
+      let request = setup_request (packages g) g.valid.names made (allows g q p body c) in
       let kinds = and_parts (is_of_setup dep.kind) (not dep.internal)
       (all-at (λ (other : Dep). is_of_setup other.kind && not other.internal) d.setup dep described.setup_kinds inside) in
       let asked = from-scripts g q p source c (request dep)
       (subst (λ b. Contains (setup_requests b (map request d.setup)) (request dep)) (sym custom) (map-contains request d.setup dep inside)) in
-      let edge = edge-to g q p body c (request dep) asked (is_made-from g.assignment made c.value) refl in
+      let edge = edge-to g q p body c (request dep) asked (is_made-from g.valid.assignment made c.value) refl in
       let under : qual_of_dep node dep t ≡ Setup p =
       ap (λ b. if b then q else qual_for dep.kind (package_var q p) t) (not-true dep.internal kinds.1)
       ∙ ap (λ k. qual_for k (package_var q p) t) (of-setup dep.kind kinds.0) in
@@ -193,7 +193,7 @@ module _ (g : Given) (node : Node) (source : Source) (c : IsChosen g node.qual n
       sym (ap (λ b. if b then same_text dep.«package» d.name && finds_all dep.kind dep d.components else true) own)
       ∙ all-at (is_own d) (component_deps d) dep described.own_components among in
       let t_is : t ≡ p =
-      ap (number (packages g) g.names) (same-is dep.«package» d.name ((and_parts (same_text dep.«package» d.name) (finds_all dep.kind dep d.components) named).0))
+      ap (number (packages g) g.valid.names) (same-is dep.«package» d.name ((and_parts (same_text dep.«package» d.name) (finds_all dep.kind dep d.components) named).0))
       ∙ own-number-is g q p body c in
       let q_is : under ≡ q = ap (λ b. if b then q else qual_for dep.kind (package_var q p) t) own in
       let found = contains-map (need_of dep.kind under t) (meant_pieces dep (body_at (selection g) under t)) need h in
@@ -249,8 +249,8 @@ module _ (g : Given) (node : Node) (source : Source) (c : IsChosen g node.qual n
       let from = contains-flat_map (λ (x : GuardedDep). dep_needs (selection g) node x.dep) (filter (counts (selection g) values false component) component.build.deps) need of.2 in
       let guarded = from.0 in
       let kept = contains-filter (counts (selection g) values false component) component.build.deps guarded from.1 in
-      let both = and_parts (not guarded.dep.internal) (condition_holds g.env values (whole_condition component guarded)) kept.1 in
-      let asked = (and_parts (is_asked (selection g) q p component.kind) (condition_holds g.env values component.build.buildable) wanted.1).0 in
+      let both = and_parts (not guarded.dep.internal) (condition_holds g.valid.env values (whole_condition component guarded)) kept.1 in
+      let asked = (and_parts (is_asked (selection g) q p component.kind) (condition_holds g.valid.env values component.build.buildable) wanted.1).0 in
       inl (dep-edge component guarded need wanted.0 asked kept.0 (not-true guarded.dep.internal both.0) both.1 from.2))
       (λ b.
       let of = contains-flat_map (dep_needs (selection g) node) d.setup need b in
@@ -269,26 +269,26 @@ module _ (g : Given) (node : Node) (unit : UnitRecord) (names : List Name) (c : 
   unit_body = Installed unit names
 
   abbrev asked_at : ℕ → Request
-  asked_at k = request_of (unit_demand (packages g) g.names (owner g node.qual node.«package» unit_body c) unit.depends names k)
+  asked_at k = request_of (unit_demand (packages g) g.valid.names (owner g node.qual node.«package» unit_body c) unit.depends names k)
 
   module _ (name : Name) (h : Contains names name) where
-    unit-asked : Contains (body_requests g.env (packages g) g.project g.names (owner g node.qual node.«package» unit_body c) (allows g node.qual node.«package» unit_body c) unit_body) (asked_at h.0)
+    unit-asked : Contains (body_requests g.valid.env (packages g) g.valid.project g.valid.names (owner g node.qual node.«package» unit_body c) (allows g node.qual node.«package» unit_body c) unit_body) (asked_at h.0)
     unit-asked =
         let made = owner g node.qual node.«package» unit_body c in
-        map-contains request_of (unit_demands (packages g) g.names made unit.depends names) (unit_demand (packages g) g.names made unit.depends names h.0)
-        (map-contains (unit_demand (packages g) g.names made unit.depends names) (rising (length names)) h.0 (rising-has (length names) h.0 h.1))
+        map-contains request_of (unit_demands (packages g) g.valid.names made unit.depends names) (unit_demand (packages g) g.valid.names made unit.depends names h.0)
+        (map-contains (unit_demand (packages g) g.valid.names made unit.depends names) (rising (length names)) h.0 (rising-has (length names) h.0 h.1))
 
-    unit-yes : (asked_at h.0).is_yes g.assignment ≡ true
+    unit-yes : (asked_at h.0).is_yes g.valid.assignment ≡ true
     unit-yes =
         let made = owner g node.qual node.«package» unit_body c in
-        and_from (is_made g.assignment made) true (is_made-from g.assignment made c.value) refl
+        and_from (is_made g.valid.assignment made) true (is_made-from g.valid.assignment made c.value) refl
 
     name-at : get_or names h.0 [] ≡ name
     name-at = get_or_default names h.0 [] name h.1 ∙ h.2
 
     pub unit-edge : PackageEdge g (var_of node) (var_of (unit_need (selection g) node name).node)
     unit-edge =
-        subst (λ n. PackageEdge g (var_of node) (package_var node.qual (number (packages g) g.names n))) name-at
+        subst (λ n. PackageEdge g (var_of node) (package_var node.qual (number (packages g) g.valid.names n))) name-at
         (edge-to g node.qual node.«package» unit_body c (asked_at h.0) unit-asked unit-yes refl)
 
     not-local : (local : Bool) (places_there : List ℕ) (i : ℕ) → Contains (unless_local local places_there) i → Contains places_there i
@@ -304,13 +304,13 @@ module _ (g : Given) (node : Node) (unit : UnitRecord) (names : List Name) (c : 
         let value = value-of-target g node.qual node.«package» unit_body c (asked_at h.0) unit-asked unit-yes in
         let i = value.0 in
         let id = get_or unit.depends h.0 [] in
-        let t = number (packages g) g.names (get_or names h.0 []) in
+        let t = number (packages g) g.valid.names (get_or names h.0 []) in
         let entries = entries_of (packages g) t in
         let kept = contains-filter (λ k. is_unit id (entry_at entries k)) (rising (length entries)) i
         (not-local (package_at (packages g) t).local (places (is_unit id) entries) i value.2) in
         let entry = entry_at entries i in
         let installed = (and_parts (is_installed entry.body) (same_text entry.instance.unit id) kept.1).0 in
-        subst (λ n. IsWell (selection g) (node_of node.qual (number (packages g) g.names n) Whole)) name-at (record {
+        subst (λ n. IsWell (selection g) (node_of node.qual (number (packages g) g.valid.names n) Whole)) name-at (record {
           body = entry.body;
           at = at-chosen g node.qual t i value.1 (rising-below (length entries) i kept.0);
           fits = whole-fits node.qual t entry.body installed;

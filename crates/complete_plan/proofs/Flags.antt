@@ -87,37 +87,37 @@ module _ (g : Given) (q : Qual) (p : ℕ) (source : Source) (c : IsChosen g q p 
   chooser = request.chooser g q p source c
 
   abbrev pub parts : Parts
-  parts = parts_under g.names chooser g.assignment
+  parts = parts_under g.valid.names chooser g.valid.assignment
 
   abbrev pub flags : List FlagSet
   flags = chosen_flags (selection g) q p d
 
   abbrev flag_at : FlagDecl → Var
-  flag_at decl = part_var q p (Flag (flag_number g.names decl.name))
+  flag_at decl = part_var q p (Flag (flag_number g.valid.names decl.name))
 
   abbrev one : FlagDecl → Demand
-  one decl = flag_demand g.project g.names chooser decl
+  one decl = flag_demand g.valid.project g.valid.names chooser decl
 
   -- the instance asks for a value of each flag that it declares
-  flag-asked : (decl : FlagDecl) → Contains d.flags decl → Contains (front_demands (packages g) g.project g.names chooser d) (one decl)
+  flag-asked : (decl : FlagDecl) → Contains d.flags decl → Contains (front_demands (packages g) g.valid.project g.valid.names chooser d) (one decl)
   flag-asked decl h =
       let tests = stanza_if (has_stanzas (packages g) chooser.var && has_kind is_suite d) chooser Tests in
       let benches = stanza_if (has_stanzas (packages g) chooser.var && has_kind is_benchmark d) chooser Benches in
       contains-left (map one d.flags ++ tests) benches (one decl) (contains-left (map one d.flags) tests (one decl) (map-contains one d.flags decl h))
 
-  flag-set : (decl : FlagDecl) → Contains d.flags decl → as_setting (g.assignment (flag_at decl)) ≡ Some (is_value_on (g.assignment (flag_at decl)))
+  flag-set : (decl : FlagDecl) → Contains d.flags decl → as_setting (g.valid.assignment (flag_at decl)) ≡ Some (is_value_on (g.valid.assignment (flag_at decl)))
   flag-set decl h =
-      let made = and_from (is_made g.assignment chooser) true (is_made-from g.assignment chooser c.value) refl in
-      let there = map-contains request_of (front_demands (packages g) g.project g.names chooser d) (one decl) (flag-asked decl h) in
+      let made = and_from (is_made g.valid.assignment chooser) true (is_made-from g.valid.assignment chooser c.value) refl in
+      let there = map-contains request_of (front_demands (packages g) g.valid.project g.valid.names chooser d) (one decl) (flag-asked decl h) in
       let value = value-of-target g q p (SourceBody source) c (request_of (one decl)) (request.from-front g q p source c (request_of (one decl)) there) made in
-      let small : value.0 < 2 = (g.holds.assignment.choice (choice_of (flag_at decl) value.0) value.1).value in
+      let small : value.0 < 2 = (g.valid.whole_valid.holds.assignment.choice (choice_of (flag_at decl) value.0) value.1).value in
       ap as_setting value.1 ∙ set-as value.0 small ∙ ap (λ o. Some (is_value_on o)) (sym value.1)
 
   -- a flag that the plan has on or off is so for the demands too
   pub flags-kept : (name : List ℕ) (on : Bool) → flag_in flags name ≡ Some on → flags_of parts name ≡ Some on
   flags-kept name on h =
       let found = declared (chosen_flag (selection g) q p) (λ decl. refl) d.flags name on h in
-      subst (λ k. as_setting (g.assignment (part_var q p (Flag (flag_number g.names k)))) ≡ Some on) found.named
+      subst (λ k. as_setting (g.valid.assignment (part_var q p (Flag (flag_number g.valid.names k)))) ≡ Some on) found.named
       (flag-set found.decl found.among ∙ ap Some found.same)
 
   -- ---- stanzas
@@ -126,15 +126,15 @@ module _ (g : Given) (q : Qual) (p : ℕ) (source : Source) (c : IsChosen g q p 
   stanzas = has_stanzas (packages g) (package_var q p)
 
   -- a stanza that has a value has a variable
-  stanza-known : (part : Part) (test : Bool) → is_part g.names q (package_at (packages g) p) part ≡ (stanzas && test)
+  stanza-known : (part : Part) (test : Bool) → is_part g.valid.names q (package_at (packages g) p) part ≡ (stanzas && test)
       → is_turned_on (selection g) q p part ≡ true → stanzas ≡ true
   stanza-known part test same h =
-      elim (g.assignment (part_var q p part)) as (λ o. g.assignment (part_var q p part) ≡ o → is_value_on o ≡ true → stanzas ≡ true) [
+      elim (g.valid.assignment (part_var q p part)) as (λ o. g.valid.assignment (part_var q p part) ≡ o → is_value_on o ≡ true → stanzas ≡ true) [
         | None ↦ λ e k. absurd (false≢true k)
         | Some n ↦ λ e k.
-            let has = is_part g.names q (package_at (packages g) p) part in
-            let known = g.holds.assignment.inside (part_var q p part) n e in
-            let inner = (and_parts (is_qual (packages g) g.names q) (nat_lt p (length (packages g)) && has) known).1 in
+            let has = is_part g.valid.names q (package_at (packages g) p) part in
+            let known = g.valid.whole_valid.holds.assignment.inside (part_var q p part) n e in
+            let inner = (and_parts (is_qual (packages g) g.valid.names q) (nat_lt p (length (packages g)) && has) known).1 in
             (and_parts stanzas test (sym same ∙ (and_parts (nat_lt p (length (packages g))) has inner).1)).0
       ] refl h
 
@@ -143,8 +143,8 @@ module _ (g : Given) (q : Qual) (p : ℕ) (source : Source) (c : IsChosen g q p 
     pub met : are_met parts (stanza_of kind) ≡ true
     pub has : list_all (λ (l : Literal). has_part stanzas l.part) (stanza_of kind) ≡ true
 
-  set-part : (part : Part) → is_turned_on (selection g) q p part ≡ true → has_setting (as_setting (g.assignment (part_var q p part))) true ≡ true
-  set-part part h = ap (λ o. has_setting o true) (set-on (g.assignment (part_var q p part)) h)
+  set-part : (part : Part) → is_turned_on (selection g) q p part ≡ true → has_setting (as_setting (g.valid.assignment (part_var q p part))) true ≡ true
+  set-part part h = ap (λ o. has_setting o true) (set-on (g.valid.assignment (part_var q p part)) h)
 
   abbrev some-has : (CompKind → Bool) → Bool
   some-has is_meant = list_any (λ (e : Entry). body_has_kind is_meant e.body) (package_at (packages g) p).entries

@@ -8,24 +8,21 @@ use Rattle.std.proofs.lemmas.Option.{get_or_from_slice_get, none-some, same_Some
 use Rattle.common_laws.specs.Each.{each-at}
 use Rattle.common_laws.specs.Lists.{any-at}
 use Rattle.plan_types.specs.Packages.{entries_of, no_package, package_at}
-use Rattle.plan_types.specs.declared.condition.Env.{Env}
 use Rattle.plan_types.specs.declared.dependency.Dep.{Dep}
 use Rattle.plan_types.specs.declared.index.Body.{Body}
 use Rattle.plan_types.specs.declared.index.Entry.{Entry}
-use Rattle.plan_types.specs.declared.index.Index.{Index}
 use Rattle.plan_types.specs.declared.index.Instance.{Instance}
 use Rattle.plan_types.specs.declared.index.Package.{Package}
-use Rattle.plan_types.specs.declared.project.Project.{Project}
 use Rattle.plan_types.specs.declared.version.Version.{Version}
-use Rattle.flatten.specs.Sound.{IsBody, IsEntry, IsPackage, IsSound, instance_of}
+use Rattle.flatten.specs.Sound.{IsBody, IsEntry, IsPackage, instance_of}
 use Rattle.qualified_goals.specs.declared.variable.Qual.{Qual}
 use Rattle.qualified_goals.specs.declared.variable.Var.{Var}
 use Rattle.qualified_goals.proofs.OwnNumbers.{own-number}
-use Rattle.qualified_goals.specs.Names.{AreNumbers, NameTable, number_of, package_names}
+use Rattle.qualified_goals.specs.Names.{number_of, package_names}
 use Rattle.choice_problem.specs.declared.problem.Choice.{Choice}
-use Rattle.choice_problem.specs.Assignment.{Assignment, is_one_of}
+use Rattle.choice_problem.specs.Assignment.{is_one_of}
 use Rattle.choice_problem.specs.General.{General, Request}
-use Rattle.choice_problem.specs.Holds.{HoldsWithin, IsEdge}
+use Rattle.choice_problem.specs.Holds.{IsEdge}
 use Rattle.choice_problem.specs.Problem.{IsChoice, IsDemand}
 use Rattle.choice_problem.specs.Trail.{choice_of}
 use Rattle.solver_index.specs.AllowedVersions.{allowed_versions}
@@ -33,21 +30,14 @@ use Rattle.solver_index.specs.Places.{entry_at, no_entry, number}
 use Rattle.cabal_problem.specs.Laws.{known-below}
 use Rattle.cabal_problem.specs.Values.{package_var}
 use Rattle.cabal_problem.specs.Variables.{is_known}
-use Rattle.cabal_problem.specs.WholeDemands.{body_requests, whole_problem}
-use Rattle.plan_components.specs.Chosen.{Selection, body_at, selection_from}
+use Rattle.cabal_problem.specs.WholeDemands.{body_requests}
+use Rattle.plan_components.specs.Chosen.{Selection, body_at}
+use Rattle.complete_plan.specs.Valid.{ValidAssignment, problem, selected}
 
--- an assignment that holds within all variables of the problem that a sound index makes
+-- a complete, valid assignment, whose demands have known targets
 pub record Given : Type 0 where
-  pub env : Env
-  pub index : Index
-  pub project : Project
-  pub names : NameTable
-  pub orders : List (List ℕ)
-  pub assignment : Assignment
-  pub sound : IsSound env index
-  pub numbers : AreNumbers index.packages names
-  pub known : (r : Request) → IsDemand (whole_problem env index.packages project names orders) r → r.is_yes assignment ≡ true → is_known index.packages names r.target ≡ true
-  pub holds : HoldsWithin (whole_problem env index.packages project names orders) (whole_problem env index.packages project names orders).known assignment
+  pub valid : ValidAssignment
+  pub known : (r : Request) → IsDemand (problem valid) r → r.is_yes valid.assignment ≡ true → is_known valid.index.packages valid.names r.target ≡ true
 
 -- ---- values
 
@@ -59,28 +49,28 @@ allowed-value (Some n) values h =
 
 module _ (g : Given) where
   abbrev pub packages : List Package
-  packages = g.index.packages
+  packages = g.valid.index.packages
 
   abbrev pub whole : General
-  whole = whole_problem g.env g.index.packages g.project g.names g.orders
+  whole = problem g.valid
 
   abbrev pub selection : Selection
-  selection = selection_from g.index g.names g.env g.assignment
+  selection = selected g.valid
 
   -- one package's choice depends on another's
   abbrev pub PackageEdge : Var → Var → Type 0
-  PackageEdge = IsEdge whole whole.known g.assignment
+  PackageEdge = IsEdge whole whole.known g.valid.assignment
 
   -- ---- instances
 
   -- the instance of a package that is chosen under a qualifier
   pub record IsChosen (q : Qual) (p : ℕ) (body : Body) : Type 0 where
     pub place : ℕ
-    pub value : g.assignment (package_var q p) ≡ Some place
+    pub value : g.valid.assignment (package_var q p) ≡ Some place
     pub within : place < length (entries_of packages p)
     pub body_is : (entry_at (entries_of packages p) place).body ≡ body
 
-  chosen-by : (q : Qual) (p : ℕ) (body : Body) (o : Option ℕ) → g.assignment (package_var q p) ≡ o
+  chosen-by : (q : Qual) (p : ℕ) (body : Body) (o : Option ℕ) → g.valid.assignment (package_var q p) ≡ o
       → option_map (λ (e : Entry). e.body) (option_and_then (slice_get (entries_of packages p)) o) ≡ Some body → IsChosen q p body
   chosen-by q p body None is h = absurd (none-some body h)
   chosen-by q p body (Some i) is h =
@@ -96,9 +86,9 @@ module _ (g : Given) where
       ] refl h
 
   pub chosen-at : (q : Qual) (p : ℕ) (body : Body) → body_at selection q p ≡ Some body → IsChosen q p body
-  chosen-at q p body h = chosen-by q p body (g.assignment (package_var q p)) refl h
+  chosen-at q p body h = chosen-by q p body (g.valid.assignment (package_var q p)) refl h
 
-  pub at-chosen : (q : Qual) (p i : ℕ) → g.assignment (package_var q p) ≡ Some i → i < length (entries_of packages p)
+  pub at-chosen : (q : Qual) (p i : ℕ) → g.valid.assignment (package_var q p) ≡ Some i → i < length (entries_of packages p)
       → body_at selection q p ≡ Some (entry_at (entries_of packages p) i).body
   at-chosen q p i is lt =
       ap (λ o. option_map (λ (e : Entry). e.body) (option_and_then (slice_get (entries_of packages p)) o)) is
@@ -112,22 +102,22 @@ module _ (g : Given) where
     entry = entry_at (entries_of packages p) c.place
 
     abbrev pub allows : Dep → Version → Bool
-    allows = allowed_versions g.project entry.instance
+    allows = allowed_versions g.valid.project entry.instance
 
     is-choice : IsChoice whole owner
-    is-choice = g.holds.assignment.choice owner c.value
+    is-choice = g.valid.whole_valid.holds.assignment.choice owner c.value
 
     below : p < length packages
-    below = known-below packages g.names (package_var q p) is-choice.variable
+    below = known-below packages g.valid.names (package_var q p) is-choice.variable
 
-    entry-is : IsEntry g.env g.index (package_at packages p) entry
+    entry-is : IsEntry g.valid.env g.valid.index (package_at packages p) entry
     entry-is =
-        let found = each-at (IsPackage g.env g.index) packages p (package_at packages p) g.sound.packages (slice_get-get_or packages p no_package below) in
-        each-at (IsEntry g.env g.index (package_at packages p)) (entries_of packages p) c.place entry found.entries
+        let found = each-at (IsPackage g.valid.env g.valid.index) packages p (package_at packages p) g.valid.sound.packages (slice_get-get_or packages p no_package below) in
+        each-at (IsEntry g.valid.env g.valid.index (package_at packages p)) (entries_of packages p) c.place entry found.entries
         (slice_get-get_or (entries_of packages p) c.place no_entry c.within)
 
-    pub body-sound : IsBody g.env g.index body
-    body-sound = subst (IsBody g.env g.index) c.body_is entry-is.body
+    pub body-sound : IsBody g.valid.env g.valid.index body
+    body-sound = subst (IsBody g.valid.env g.valid.index) c.body_is entry-is.body
 
     -- the name that the instance states is that of its package
     own-name : (instance_of (package_at packages p).local body).name ≡ (package_at packages p).name
@@ -136,20 +126,20 @@ module _ (g : Given) where
         ∙ ap (λ (i : Instance). i.name) (sym entry-is.instance_is) ∙ entry-is.named
 
     -- and has its number
-    pub own-number-is : number packages g.names (instance_of (package_at packages p).local body).name ≡ p
+    pub own-number-is : number packages g.valid.names (instance_of (package_at packages p).local body).name ≡ p
     own-number-is =
         let named = package_names packages in
         let within : p < length named = subst (λ n. p < n) (sym (length-map packages (λ (k : Package). k.name))) below in
         let name-at : get_or named p [] ≡ (package_at packages p).name = get_or-map (λ (k : Package). k.name) packages p no_package [] below in
-        ap (number packages g.names) (own-name ∙ sym name-at)
-        ∙ ap (λ ns. unwrap_or (number_of ns (get_or named p [])) (length packages)) g.numbers.packages_are
-        ∙ ap (λ o. unwrap_or o (length packages)) (own-number named p g.sound.in_goal_order.once within)
+        ap (number packages g.valid.names) (own-name ∙ sym name-at)
+        ∙ ap (λ ns. unwrap_or (number_of ns (get_or named p [])) (length packages)) g.valid.numbers.packages_are
+        ∙ ap (λ o. unwrap_or o (length packages)) (own-number named p g.valid.sound.in_goal_order.once within)
 
     -- ---- demands
 
-    module _ (r : Request) (asked : Contains (body_requests g.env packages g.project g.names owner allows body) r) (yes : r.is_yes g.assignment ≡ true) where
+    module _ (r : Request) (asked : Contains (body_requests g.valid.env packages g.valid.project g.valid.names owner allows body) r) (yes : r.is_yes g.valid.assignment ≡ true) where
       demand : IsDemand whole r
-      demand = inr (owner, is-choice, subst (λ b. Contains (body_requests g.env packages g.project g.names owner allows b) r) (sym c.body_is) asked)
+      demand = inr (owner, is-choice, subst (λ b. Contains (body_requests g.valid.env packages g.valid.project g.valid.names owner allows b) r) (sym c.body_is) asked)
 
       pub edge-to : r.owner ≡ Some owner → PackageEdge (package_var q p) r.target
       edge-to owned = record {
@@ -163,5 +153,5 @@ module _ (g : Given) where
         enters = refl;
       }
 
-      pub value-of-target : (n : ℕ) × (g.assignment r.target ≡ Some n) × Contains r.allowed n
-      value-of-target = allowed-value (g.assignment r.target) r.allowed (g.holds.met r demand yes (g.known r demand yes))
+      pub value-of-target : (n : ℕ) × (g.valid.assignment r.target ≡ Some n) × Contains r.allowed n
+      value-of-target = allowed-value (g.valid.assignment r.target) r.allowed (g.valid.whole_valid.holds.met r demand yes (g.known r demand yes))

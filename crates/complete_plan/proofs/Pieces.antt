@@ -1,5 +1,5 @@
 -- Pieces of packages: of each node of a plan an instance is chosen, and it has the piece.
-use Rattle.std.proofs.Common.{◌≡◌, ◌⊎◌, inl, inr, ◌+◌, ℕ, zero, suc, Bool, true, false, ◌&&◌, if◌then◌else◌, List, [], ◌∷◌, length, map, Some, None, slice_get, refl, sym, subst, arith}
+use Rattle.std.proofs.Common.{◌≡◌, ◌⊎◌, inl, inr, ⊎_elim, ◌+◌, ℕ, zero, suc, Bool, true, false, ◌&&◌, if◌then◌else◌, List, [], ◌∷◌, length, map, Some, None, slice_get, refl, sym, subst, arith}
 use Rattle.std.specs.List.{Contains, list_any}
 use Rattle.std.proofs.lemmas.Bool.{and_parts, false≢true}
 use Rattle.common_laws.specs.Lists.{any-at, contains-cases, contains-flat_map, contains-map, contains-none}
@@ -111,28 +111,21 @@ module _ (selection : Selection) (q : Qual) (p : ℕ) where
 
   -- ---- what a dependency asks for
 
-  library-asked : (kind : CompKind) → is_library kind ≡ true → is_asked selection q p kind ≡ true
-  library-asked comp.Library h = refl
-  library-asked comp.Executable h = refl
-  library-asked comp.Test h = absurd (false≢true h)
-  library-asked comp.Bench h = absurd (false≢true h)
-  library-asked comp.Foreign h = refl
-
-  executable-asked : (kind : CompKind) → is_executable kind ≡ true → is_asked selection q p kind ≡ true
-  executable-asked comp.Library h = refl
-  executable-asked comp.Executable h = refl
-  executable-asked comp.Test h = absurd (false≢true h)
-  executable-asked comp.Bench h = absurd (false≢true h)
-  executable-asked comp.Foreign h = refl
+  kind-asked : (kind : CompKind) → (is_library kind ≡ true) ⊎ (is_executable kind ≡ true) → is_asked selection q p kind ≡ true
+  kind-asked comp.Library h = refl
+  kind-asked comp.Executable h = refl
+  kind-asked comp.Test h = absurd (⊎_elim (λ e. false≢true e) (λ e. false≢true e) h)
+  kind-asked comp.Bench h = absurd (⊎_elim (λ e. false≢true e) (λ e. false≢true e) h)
+  kind-asked comp.Foreign h = refl
 
   some-library : (libs : List LibName) (c : Component) → list_any (is_lib c) libs ≡ true → is_asked selection q p c.kind ≡ true
   some-library libs c h =
       let found = any-at (is_lib c) libs h in
-      library-asked c.kind (and_parts (is_library c.kind) (same_text c.name (name_of found.0)) found.2).0
+      kind-asked c.kind (inl (and_parts (is_library c.kind) (same_text c.name (name_of found.0)) found.2).0)
 
   means-asked : (kind : DepKind) (dep : Dep) (c : Component) → means kind dep c ≡ true → is_asked selection q p c.kind ≡ true
   means-asked dep_kind.Library dep c h = some-library dep.libs c h
-  means-asked dep_kind.Tool dep c h = executable-asked c.kind (and_parts (is_executable c.kind) (same_text c.name dep.exe) h).0
+  means-asked dep_kind.Tool dep c h = kind-asked c.kind (inr (and_parts (is_executable c.kind) (same_text c.name dep.exe) h).0)
   means-asked dep_kind.Setup dep c h = some-library dep.libs c h
 
   dep-fits : (dep : Dep) (body : Body) (piece : Piece) → Contains (meant_pieces dep (Some body)) piece → Fits selection q p body piece

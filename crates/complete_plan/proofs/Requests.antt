@@ -25,16 +25,16 @@ module _ (g : Given) (q : Qual) (p : ℕ) (source : Source) (c : IsChosen g q p 
   chooser = owner g q p body c
 
   abbrev pub front : List Request
-  front = requests_of (front_demands (packages g) g.project g.names chooser d)
+  front = requests_of (front_demands (packages g) g.valid.project g.valid.names chooser d)
 
   abbrev pub deps : List Request
-  deps = map (whole_request g.env (packages g) g.names chooser (allows g q p body c)) (filter (has_stanza_variable (has_stanzas (packages g) chooser.var)) (outward d))
+  deps = map (whole_request g.valid.env (packages g) g.valid.names chooser (allows g q p body c)) (filter (has_stanza_variable (has_stanzas (packages g) chooser.var)) (outward d))
 
   abbrev pub scripts : List Request
-  scripts = setup_requests d.custom (map (setup_request (packages g) g.names chooser (allows g q p body c)) d.setup)
+  scripts = setup_requests d.custom (map (setup_request (packages g) g.valid.names chooser (allows g q p body c)) d.setup)
 
   abbrev pub asked : List Request
-  asked = body_requests g.env (packages g) g.project g.names chooser (allows g q p body c) body
+  asked = body_requests g.valid.env (packages g) g.valid.project g.valid.names chooser (allows g q p body c) body
 
   pub from-front : (r : Request) → Contains front r → Contains asked r
   from-front r h = contains-left (front ++ deps) scripts r (contains-left front deps r h)

@@ -13,13 +13,10 @@ use Rattle.plan_types.specs.declared.project.Project.{Project}
 use Rattle.flatten.specs.Sound.{IsSound, has_package}
 use Rattle.qualified_goals.specs.declared.variable.Var.{Var}
 use Rattle.qualified_goals.specs.Names.{AreNumbers, NameTable}
-use Rattle.choice_problem.specs.Assignment.{Assignment}
 use Rattle.choice_problem.specs.General.{Request, general}
 use Rattle.choice_problem.specs.Joined.{AreYesTogether}
 use Rattle.choice_problem.specs.Problem.{IsDemand, Lawful, Problem}
-use Rattle.choice_problem.specs.Valid.{IsWholeValid}
 use Rattle.choice_problem.proofs.TrailLemmas.{general-lawful, target-known}
-use Rattle.solver_index.specs.Orders.{AreOrders}
 use Rattle.solver_index.specs.Places.{rising}
 use Rattle.cabal_problem.specs.Bound.{all_vars}
 use Rattle.cabal_problem.specs.Laws.{rising-has, var-in}
@@ -30,7 +27,7 @@ use Rattle.plan_components.specs.declared.node.Need.{Need}
 use Rattle.plan_components.specs.declared.node.Node.{Node}
 use Rattle.plan_components.specs.declared.node.Piece.{Piece}
 use Rattle.plan_components.specs.declared.node.Piece.TheVariants.{Whole, One}
-use Rattle.plan_components.specs.Chosen.{Selection, body_at, chosen_flags, selection_from}
+use Rattle.plan_components.specs.Chosen.{Selection, body_at, chosen_flags}
 use Rattle.plan_components.specs.Needs.{needs_of}
 use Rattle.plan_components.specs.Plan.{IsInPlan, needed}
 use Rattle.plan_components.specs.SameNode.{node-is, node-self, same_node}
@@ -43,6 +40,7 @@ use Rattle.node_lines.specs.Lines.{HasLine, HaveLines, needed_by, told}
 use Rattle.complete_plan.proofs.Cycles.{IsNeeded, no-cycle, reached, well}
 use Rattle.complete_plan.proofs.Descent.{descends}
 use Rattle.complete_plan.proofs.Edges.{components_in, var_of}
+use Rattle.complete_plan.specs.Valid.{ValidAssignment, problem, selected}
 use Rattle.complete_plan.proofs.Given.{Given, chosen-at, packages, selection}
 use Rattle.complete_plan.proofs.Pieces.{Fits, IsWell}
 
@@ -95,7 +93,7 @@ module _ (g : Given) where
 
   -- all that can be nodes
   abbrev all_nodes : List Node
-  all_nodes = flat_map nodes_at (all_vars (packages g) g.names)
+  all_nodes = flat_map nodes_at (all_vars (packages g) g.valid.names)
 
   within : (node : Node) (body : Body) (place : ℕ) → body_at (selection g) node.qual node.«package» ≡ Some body
       → Fits (selection g) node.qual node.«package» body (One place) → place < length (components_at (var_of node))
@@ -115,8 +113,8 @@ module _ (g : Given) where
   listed : (node : Node) → IsWell (selection g) node → Contains all_nodes node
   listed node w =
       let c = chosen-at g node.qual node.«package» w.body w.at in
-      let known = g.holds.assignment.inside (var_of node) c.place c.value in
-      flat_map-contains nodes_at (all_vars (packages g) g.names) (var_of node) node (var-in (packages g) g.names (var_of node) known) (listed-piece node w.body node.piece w.at w.fits)
+      let known = g.valid.whole_valid.holds.assignment.inside (var_of node) c.place c.value in
+      flat_map-contains nodes_at (all_vars (packages g) g.valid.names) (var_of node) node (var-in (packages g) g.valid.names (var_of node) known) (listed-piece node w.body node.piece w.at w.fits)
 
   abbrev Claim : Node → Type 0
   Claim node = IsInPlan (selection g) node → HasSome (selection g) node
@@ -142,29 +140,14 @@ abbrev pub IsLawful : Type 0
 IsLawful = (env : Env) (index : Index) (project : Project) (names : NameTable) (p : Problem)
     → IsSound env index → list_all (λ named. has_package index named.name) project.extra ≡ true → IsProblemOf index project names p → Lawful p
 
-pub have-lines : Together → IsLawful → (env : Env) (index : Index) (project : Project) (names : NameTable) (orders : List (List ℕ)) (assignment : Assignment)
-    → IsSound env index → AreNumbers index.packages names → AreOrders project index.packages orders
-    → list_all (λ named. has_package index named.name) project.extra ≡ true
-    → IsWholeValid (whole_problem env index.packages project names orders) assignment
-    → HaveLines (selection_from index names env assignment)
-have-lines alike keeps env index project names orders assignment sound numbers made there valid =
-    let p = problem_of index.packages project names orders in
-    let together = alike env index project names orders sound numbers in
-    let lawful : Lawful p = keeps env index project names p sound there
-    (record { in_goal_order = sound.in_goal_order; numbers = numbers; orders = orders; orders_are = made; problem_is = refl }) in
-    let known : (r : Request) → IsDemand (whole_problem env index.packages project names orders) r → r.is_yes assignment ≡ true → is_known index.packages names r.target ≡ true =
+pub have-lines : Together → IsLawful → (v : ValidAssignment) → HaveLines (selected v)
+have-lines alike keeps v =
+    let p = problem_of v.index.packages v.project v.names v.orders in
+    let together = alike v.env v.index v.project v.names v.orders v.sound v.numbers in
+    let lawful : Lawful p = keeps v.env v.index v.project v.names p v.sound v.there
+    (record { in_goal_order = v.sound.in_goal_order; numbers = v.numbers; orders = v.orders; orders_are = v.orders_are; problem_is = refl }) in
+    let known : (r : Request) → IsDemand (problem v) r → r.is_yes v.assignment ≡ true → is_known v.index.packages v.names r.target ≡ true =
     λ r demand yes.
-    let has = together.there assignment r demand yes in
-    subst (λ v. is_known index.packages names v ≡ true) has.target (target-known (general p) has.other (general-lawful p lawful) has.demand) in
-    given-lines (record {
-      env = env;
-      index = index;
-      project = project;
-      names = names;
-      orders = orders;
-      assignment = assignment;
-      sound = sound;
-      numbers = numbers;
-      known = known;
-      holds = valid.holds;
-    })
+    let has = together.there v.assignment r demand yes in
+    subst (λ x. is_known v.index.packages v.names x ≡ true) has.target (target-known (general p) has.other (general-lawful p lawful) has.demand) in
+    given-lines (record { valid = v; known = known })

@@ -1,28 +1,19 @@
 // Each node of the plan of a complete, valid assignment can be built.
-ghost use Rattle.std.specs.Prelude.{◌≡◌, ℕ, List, true};
-ghost use Rattle.std.specs.List.{list_all};
-ghost use Rattle.plan_types.specs.declared.condition.Env.{Env};
-ghost use Rattle.plan_types.specs.declared.index.Index.{Index};
-ghost use Rattle.plan_types.specs.declared.project.Project.{Project};
-ghost use Rattle.qualified_goals.specs.Names.{AreNumbers, NameTable};
-ghost use Rattle.flatten.specs.Sound.{IsSound, has_package};
-ghost use Rattle.choice_problem.specs.Assignment.{Assignment};
-ghost use Rattle.choice_problem.specs.Valid.{IsWholeValid};
-ghost use Rattle.solver_index.specs.Orders.{AreOrders};
-ghost use Rattle.cabal_problem.specs.WholeDemands.{whole_problem};
+ghost use Rattle.std.specs.Prelude.{List};
+ghost use Rattle.outside_folder.specs.Files.{Bytes, Files};
+ghost use Rattle.choice_problem.specs.Trail.{value_in};
+ghost use Rattle.command_line.specs.declared.reading.Command.{Command};
+ghost use Rattle.command_line.specs.declared.reading.Options.{Options};
 ghost use Rattle.plan_components.specs.Chosen.{selection_from};
 ghost use Rattle.plan_nodes.specs.declared.node.PlanNode.{PlanNode};
 ghost use Rattle.node_lines.specs.Lines.{HaveLines};
 ghost use Rattle.elaborate.specs.Plan.{IsPlan};
 ghost use Rattle.elaborate.specs.Whole.{LacksNone};
-ghost use Rattle.command_line.specs.declared.reading.Options.{Options};
-ghost use Rattle.outside_folder.specs.Files.{Bytes, Files};
-ghost use Rattle.choice_problem.specs.Trail.{value_in};
-ghost use Rattle.command_line.specs.declared.reading.Command.{Command};
+ghost use Rattle.plan_search.specs.declared.search.Picking.{Picking};
 ghost use Rattle.plan_command.specs.Form.{form_of};
 ghost use Rattle.plan_command.specs.Meaning.{PlansValid};
 ghost use Rattle.plan_command.specs.Run.{OutputInOrder};
-ghost use Rattle.plan_search.specs.declared.search.Picking.{Picking};
+ghost use Rattle.complete_plan.specs.Valid.{ValidAssignment, selected};
 
 use cabal_problem::{listed_as_whole, problem_is_lawful};
 use elaborate::no_node_is_lacking;
@@ -30,12 +21,7 @@ use plan_search::what_is_found_is_right;
 
 /// Each node of the plan of a complete, valid assignment over a sound index has a line.
 pub fn every_node_has_a_line()
-    ensures { (env : Env) (index : Index) (project : Project) (names : NameTable) (orders : List (List ℕ))
-        (assignment : Assignment)
-        → IsSound env index → AreNumbers index.packages names → AreOrders project index.packages orders
-        → list_all (λ named. has_package index named.name) project.extra ≡ true
-        → IsWholeValid (whole_problem env index.packages project names orders) assignment
-        → HaveLines (selection_from index names env assignment) }
+    ensures { (valid : ValidAssignment) → HaveLines (selected valid) }
 {
     listed_as_whole();
     problem_is_lawful();
@@ -43,13 +29,9 @@ pub fn every_node_has_a_line()
 
 /// So each node of that plan is printed.
 pub fn valid_plan_lacks_none()
-    ensures { (env : Env) (index : Index) (project : Project) (names : NameTable) (orders : List (List ℕ))
-        (assignment : Assignment) (lines : List PlanNode) → IsSound env index → AreNumbers index.packages names
-        → AreOrders project index.packages orders
-        → list_all (λ named. has_package index named.name) project.extra ≡ true
-        → IsWholeValid (whole_problem env index.packages project names orders) assignment
-        → IsPlan (selection_from index names env assignment) lines
-        → LacksNone (selection_from index names env assignment) lines }
+    ensures { (valid : ValidAssignment) (lines : List PlanNode)
+        → IsPlan (selected valid) lines
+        → LacksNone (selected valid) lines }
 {
     every_node_has_a_line();
     no_node_is_lacking();
