@@ -12,6 +12,7 @@ use Rattle.component_cycle.specs.Cycle.{IsOnCycle, IsFirstOnCycle}
 use Rattle.common_laws.specs.Lists.{contains-none}
 use Rattle.common_laws.specs.Graphs.{IsPath, Needs, last, more, needs_within}
 use Rattle.component_cycle.specs.Search.{state, IsSound, AllReach, is_on_cycle}
+use Rattle.component_cycle.proofs.Joins.{sound-beside}
 
 abbrev pub start : ℕ → Search
 start n = record { states = replicate n Unseen; path = []; waiting = []; marks = [] }
@@ -57,21 +58,7 @@ module _ (needs : List (List ℕ)) (s : Search) (h : IsSound needs s None) (idle
   root-leads v i l = absurd (no-path i l)
 
   pub root-sound : (v : ℕ) → IsSound needs s (Some v)
-  root-sound v =
-      record {
-        count = h.count;
-        placed = h.placed;
-        standing = h.standing;
-        closed = h.closed;
-        right = h.right;
-        marked = h.marked;
-        rising = h.rising;
-        covered = h.covered;
-        forward = h.forward;
-        back = h.back;
-        known = λ i w l edge. absurd (no-path i l);
-        source = h.source;
-      }
+  root-sound v = sound-beside needs s None (Some v) h (λ i w l known. absurd (no-path i l))
 
   module _ (seen : (v : ℕ) → v < length needs → state s v ≢ Unseen) where
     all-settled : (v : ℕ) → v < length needs → (b : Bool) × (state s v ≡ Finished b)

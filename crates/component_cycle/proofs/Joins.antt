@@ -45,6 +45,37 @@ with_marks s ms = record { states = s.states; path = s.path; waiting = s.waiting
 abbrev pub with_waiting : Search → List ℕ → Search
 with_waiting s waiting = record { states = s.states; path = s.path; waiting = waiting; marks = s.marks }
 
+-- the invariant with other waiting targets, other marks and another current edge
+sound-with : (needs : List (List ℕ)) (s : Search) (old new : Option ℕ) (waiting : List ℕ) (marks : List GroupStart) → let t : Search = with_marks (with_waiting s waiting) marks in
+    IsSound needs s old
+    → ((m : GroupStart) → Contains marks m → (m.place < length s.path) × (m.waiting ≤ length waiting))
+    → AllPairs IsBelow marks
+    → ((i : ℕ) → i < length s.path → (m : GroupStart) × Contains marks m × (m.place ≤ i))
+    → ((i j : ℕ) → i ≤ j → j < length s.path → IsNotBefore t j i → Reaches needs (at s j) (at s i))
+    → ((i w : ℕ) → i < length s.path → Needs needs (at s i) w → IsKnown t new i w)
+    → ((l : ℕ) → l < length waiting → HasSource needs t l)
+    → IsSound needs t new
+sound-with needs s old new waiting marks h marked rising covered back known source =
+    record {
+      count = h.count;
+      placed = h.placed;
+      standing = h.standing;
+      closed = h.closed;
+      right = h.right;
+      marked = marked;
+      rising = rising;
+      covered = covered;
+      forward = h.forward;
+      back = back;
+      known = known;
+      source = source;
+    }
+
+-- the invariant with another current edge
+pub sound-beside : (needs : List (List ℕ)) (s : Search) (old new : Option ℕ) → IsSound needs s old → ((i w : ℕ) → i < length s.path → IsKnown s old i w → IsKnown s new i w) → IsSound needs s new
+sound-beside needs s old new h more =
+    sound-with needs s old new s.waiting s.marks h h.marked h.rising h.covered h.back (λ i w l edge. more i w l (h.known i w l edge)) h.source
+
 module _ (needs : List (List ℕ)) (s : Search) (v p : ℕ) (h : IsSound needs s (Some v)) (leads : AllReach needs s v) (here : state s v ≡ OnPath p) where
   module _ (ms : List GroupStart) (m : GroupStart) (e : s.marks ≡ ms ++ m ∷ []) (later : p < m.place) where
     abbrev t : Search
@@ -102,21 +133,9 @@ module _ (needs : List (List ℕ)) (s : Search) (v p : ℕ) (h : IsSound needs s
 
     pub joined-sound : IsSound needs t (Some v)
     joined-sound =
-        record {
-          count = h.count;
-          placed = h.placed;
-          standing = h.standing;
-          closed = h.closed;
-          right = h.right;
-          marked = λ x c. h.marked x (in-old x c);
-          rising = rising-front ms m (subst (λ l. AllPairs IsBelow l) e h.rising);
-          covered = covered;
-          forward = h.forward;
-          back = back;
-          known = λ i w l edge. known-on i w (h.known i w l edge);
-          source = λ l below. let was = h.source l below in
-              record { place = was.place; within = was.within; edge = was.edge; same_group = λ x c. was.same_group x (in-old x c) };
-        }
+        sound-with needs s (Some v) (Some v) s.waiting ms h (λ x c. h.marked x (in-old x c)) (rising-front ms m (subst (λ l. AllPairs IsBelow l) e h.rising)) covered back
+        (λ i w l edge. known-on i w (h.known i w l edge))
+        (λ l below. let was = h.source l below in record { place = was.place; within = was.within; edge = was.edge; same_group = λ x c. was.same_group x (in-old x c) })
 
   known-done : ((x : GroupStart) → Contains s.marks x → x.place ≤ p) → (i w : ℕ) → IsKnown s (Some v) i w → IsKnown s None i w
   known-done low i w (settled b k) = settled b k
@@ -126,21 +145,7 @@ module _ (needs : List (List ℕ)) (s : Search) (v p : ℕ) (h : IsSound needs s
 
   -- all groups are merged
   pub joined-done : ((x : GroupStart) → Contains s.marks x → x.place ≤ p) → IsSound needs s None
-  joined-done low =
-      record {
-        count = h.count;
-        placed = h.placed;
-        standing = h.standing;
-        closed = h.closed;
-        right = h.right;
-        marked = h.marked;
-        rising = h.rising;
-        covered = h.covered;
-        forward = h.forward;
-        back = h.back;
-        known = λ i w l edge. known-done low i w (h.known i w l edge);
-        source = h.source;
-      }
+  joined-done low = sound-beside needs s (Some v) None h (λ i w l. known-done low i w)
 
   -- the same if the last group doesn't begin after the place
   pub joined-all : (s.marks ≡ []) ⊎ HasLast s.marks (λ m. m.place ≤ p) → (x : GroupStart) → Contains s.marks x → x.place ≤ p
@@ -158,21 +163,7 @@ module _ (needs : List (List ℕ)) (s : Search) (v : ℕ) (h : IsSound needs s (
   known-settled i w (looked_at k) = let same : v ≡ w = cc k in settled b (ap (state s) (sym same) ∙ here)
 
   pub settled-sound : IsSound needs s None
-  settled-sound =
-      record {
-        count = h.count;
-        placed = h.placed;
-        standing = h.standing;
-        closed = h.closed;
-        right = h.right;
-        marked = h.marked;
-        rising = h.rising;
-        covered = h.covered;
-        forward = h.forward;
-        back = h.back;
-        known = λ i w l edge. known-settled i w (h.known i w l edge);
-        source = h.source;
-      }
+  settled-sound = sound-beside needs s (Some v) None h (λ i w l. known-settled i w)
 
 -- an edge is taken from the last group
 module _ (needs : List (List ℕ)) (s : Search) (h : IsSound needs s None) (ms : List GroupStart) (m : GroupStart) (e : s.marks ≡ ms ++ m ∷ []) (rest : List ℕ) (v : ℕ) (last : s.waiting ≡ rest ++ v ∷ []) (some : m.waiting ≤ length rest) where
@@ -200,28 +191,20 @@ module _ (needs : List (List ℕ)) (s : Search) (h : IsSound needs s None) (ms :
             looked_at (ap Some (sym (ap (λ x. get_or s.waiting x 0) is ∙ ap (λ x. get_or x (length rest) 0) last ∙ get_or_push rest v 0 (length rest) refl) ∙ k))
       ]
 
+  source-of-rest : (l : ℕ) → l < length rest → HasSource needs popped l
+  source-of-rest l below =
+      let was = h.source l (omega (arith, below, longer)) in
+      record {
+        place = was.place;
+        within = was.within;
+        edge = subst (λ w. Needs needs (at s was.place) w) (ap (λ x. get_or x l 0) last ∙ get_or_append_left rest (v ∷ []) 0 l below) was.edge;
+        same_group = was.same_group;
+      }
+
   pub looked-sound : IsSound needs popped (Some v)
   looked-sound =
-      record {
-        count = h.count;
-        placed = h.placed;
-        standing = h.standing;
-        closed = h.closed;
-        right = h.right;
-        marked = λ x c. let was = h.marked x c in (was.0, omega (arith, (greatest x c).1, some));
-        rising = h.rising;
-        covered = h.covered;
-        forward = h.forward;
-        back = h.back;
-        known = λ i w l edge. known-rest i w (h.known i w l edge);
-        source = λ l below. let was = h.source l (omega (arith, below, longer)) in
-            record {
-              place = was.place;
-              within = was.within;
-              edge = subst (λ w. Needs needs (at s was.place) w) (ap (λ x. get_or x l 0) last ∙ get_or_append_left rest (v ∷ []) 0 l below) was.edge;
-              same_group = was.same_group;
-            };
-      }
+      sound-with needs s None (Some v) rest s.marks h (λ x c. let was = h.marked x c in (was.0, omega (arith, (greatest x c).1, some))) h.rising h.covered h.back
+      (λ i w l edge. known-rest i w (h.known i w l edge)) source-of-rest
 
   value : get_or s.waiting (length rest) 0 ≡ v
   value = ap (λ x. get_or x (length rest) 0) last ∙ get_or_push rest v 0 (length rest) refl

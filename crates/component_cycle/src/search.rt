@@ -8,7 +8,7 @@ ghost use Rattle.component_cycle.specs.declared.search.GroupStart.{GroupStart};
 ghost use Rattle.common_laws.specs.Graphs.{IsGraph};
 ghost use Rattle.component_cycle.specs.Search.{IsSound, IsLast, HasLast, DoesNotRaise, AllReach, entered, costs, state, Lowers, IsCyclic, is_on_cycle, AreFinished, OthersStay, SeenCostNothing};
 
-use plan_types::{List, NoMemory};
+use plan_types::{List, NoMemory, drop_fields};
 use std::alloc::Global;
 
 /// The state of a node.
@@ -35,15 +35,9 @@ pub(crate) struct Search {
     pub marks: List<GroupStart>,
 }
 
-// Explicit, so that it is proved once: a derived one is expanded at each exit.
 impl Drop for Search {
     fn drop(self) {
-        let Search {
-            states: _states,
-            path: _path,
-            waiting: _waiting,
-            marks: _marks,
-        } = self;
+        drop_fields!(self; states, path, waiting, marks);
     }
 }
 
