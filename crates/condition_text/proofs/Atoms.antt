@@ -246,24 +246,12 @@ module _ (T : List ℕ → Range → Type 0) where
 
 -- ---- readers
 
-module _ (spec : Spec) (n : ℕ) where
+module _ (spec : Spec) (V V' : List ℕ → Range → Type 0) (P P' : Reader Range) (compilers : Pair (cond_kind spec) (InCompiler V) (InCompiler V') (argument (compiler_at P)) (argument (compiler_at P'))) (sample_tail : V (codes ")") Any) where
   no-bytes : (b : ℕ) → (cond_kind spec).digits.digit b ≡ false
   no-bytes b = refl
 
   mapped : {A : Type 0} (f : A → Cond) (L L' : List ℕ → A → Type 0) (R R' : Reader A) → Pair (cond_kind spec) L L' R R' → (Q Q' : Reader Cond) → ((text : List ℕ) → Q text ≡ valued f (R text)) → ((text : List ℕ) → Q' text ≡ valued f (R' text)) → Pair (cond_kind spec) (Image f L) (Image f L') Q Q'
   mapped f L L' R R' p Q Q' same same' = pair_map (cond_kind spec) f L L' R R' p (Image f L) (Image f L') (λ t x l. image l) (of_image f L) (λ t x l. image l) (of_image f L') Q Q' same same'
-
-  abbrev V : List ℕ → Range → Type 0
-  V = Versions spec n
-
-  abbrev V' : List ℕ → Range → Type 0
-  V' = WiderVersions spec n
-
-  abbrev P : Reader Range
-  P = cond_tail spec n
-
-  abbrev P' : Reader Range
-  P' = wide_tail spec n
 
   done_pair : (c : Cond) → Pair (cond_kind spec) (Done c) (Done c) (λ t. Ok (c, t)) (λ t. Ok (c, t))
   done_pair c = same_pair (cond_kind spec) (Done c) (λ t. Ok (c, t)) (good_done (cond_kind spec) c)
@@ -291,7 +279,7 @@ module _ (spec : Spec) (n : ℕ) where
   arch_pair = let p = argument_pair part part spec 97 refl refl blank_part in mapped (λ x. Arch (str_to_ascii_lowercase x)) (In part part) (In part part) (named_at part part) (named_at part part) p arch_at arch_at (λ t. refl) (λ t. refl)
 
   compiler_pair : Pair (cond_kind spec) (ImplL V) (ImplL V') (impl_at P) (impl_at P')
-  compiler_pair = mapped (λ c. Impl c.0 c.1) (InCompiler V) (InCompiler V') (argument (compiler_at P)) (argument (compiler_at P')) (impl_pair spec n) (impl_at P) (impl_at P') (λ t. refl) (λ t. refl)
+  compiler_pair = mapped (λ c. Impl c.0 c.1) (InCompiler V) (InCompiler V') (argument (compiler_at P)) (argument (compiler_at P')) compilers (impl_at P) (impl_at P') (λ t. refl) (λ t. refl)
 
   flag_word : Pair (cond_kind spec) (Worded (codes "lag") FlagL) (Worded (codes "lag") FlagL) (word_at (codes "lag") flag_at) (word_at (codes "lag") flag_at)
   flag_word = pair_word (cond_kind spec) no-bytes FlagL FlagL flag_at flag_at flag_pair (codes "(a)") (Flag (codes "a")) (image (sample_name begins_flag refl)) (codes "lag") refl
@@ -304,7 +292,7 @@ module _ (spec : Spec) (n : ℕ) where
 
   impl_word : Pair (cond_kind spec) (Worded (codes "impl") (ImplL V)) (Worded (codes "impl") (ImplL V')) (word_at (codes "impl") (impl_at P)) (word_at (codes "impl") (impl_at P'))
   impl_word = pair_word (cond_kind spec) no-bytes (ImplL V) (ImplL V') (impl_at P) (impl_at P') compiler_pair (codes "(a)") (Impl (codes "a") Any)
-      (image (led [] refl (passing 40 refl (led [] refl (named (codes "a") refl (versions [] (empty refl))))))) (codes "impl") refl
+      (image (led [] refl (passing 40 refl (led [] refl (named (codes "a") refl sample_tail))))) (codes "impl") refl
 
   a_pair : Pair (cond_kind spec) (FromA V) (FromA V') (from_a P) (from_a P')
   a_pair = pair_choose (cond_kind spec) (is_letter 97) (λ b h. refl) (Worded (codes "rch") ArchL) (Worded (codes "rch") ArchL) (word_at (codes "rch") arch_at) (word_at (codes "rch") arch_at) arch_word
@@ -336,5 +324,8 @@ module _ (spec : Spec) (n : ℕ) where
   words_pair = pair_choose (cond_kind spec) (is_letter 116) (λ b h. refl) TrueL TrueL (word_at (codes "rue") (λ t. Ok (Always, t))) (word_at (codes "rue") (λ t. Ok (Always, t))) true_pair
       (FromF V) (FromF V') (from_f P) (from_f P') f_pair (never_f V 116 refl refl refl refl) (never_f V' 116 refl refl refl refl)
 
-  pub atom_pair : Pair (cond_kind spec) (Atom V) (Atom V') (atom_at P) (atom_at P')
-  atom_pair = pair_as (cond_kind spec) (Words V) (Words V') (atom_at P) (atom_at P') words_pair (Atom V) (Atom V') (of_words V) (to_words V) (of_words V') (to_words V') (atom_at P) (atom_at P') (λ t. refl) (λ t. refl)
+  whole_pair : Pair (cond_kind spec) (Atom V) (Atom V') (atom_at P) (atom_at P')
+  whole_pair = pair_as (cond_kind spec) (Words V) (Words V') (atom_at P) (atom_at P') words_pair (Atom V) (Atom V') (of_words V) (to_words V) (of_words V') (to_words V') (atom_at P) (atom_at P') (λ t. refl) (λ t. refl)
+
+pub atom_pair : (spec : Spec) (n : ℕ) → Pair (cond_kind spec) (Atom (Versions spec n)) (Atom (WiderVersions spec n)) (atom_at (cond_tail spec n)) (atom_at (wide_tail spec n))
+atom_pair spec n = whole_pair spec (Versions spec n) (WiderVersions spec n) (cond_tail spec n) (wide_tail spec n) (impl_pair spec n) (versions [] (empty refl))

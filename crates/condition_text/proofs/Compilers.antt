@@ -98,24 +98,9 @@ module _ (T : List ℕ → Range → Type 0) (P : Reader Range) (never : Never p
           by (Err cause) q = absurd (cc (h, ap (λ o. ◌>>=◌ {B = (List ℕ × Range) × List ℕ} o (λ p. P p.1 >>= λ q. Ok ((str_to_ascii_lowercase p.0, q.0), q.1))) q))
           by (Ok p) q = at p.0 p.1 q (P p.1) refl
 
-module _ (spec : Spec) (n : ℕ) where
-  abbrev L : List ℕ → Range → Type 0
-  L = Versions spec n
-
-  abbrev L' : List ℕ → Range → Type 0
-  L' = WiderVersions spec n
-
-  abbrev P : Reader Range
-  P = cond_tail spec n
-
-  abbrev P' : Reader Range
-  P' = wide_tail spec n
-
+module _ (spec : Spec) (L L' : List ℕ → Range → Type 0) (P P' : Reader Range) (tails : Pair (cond_kind spec) L L' P P') (never : Never part L) (never' : Never part L') (sample_tail : L (codes ")") Any) where
   abbrev NamedFault : List ℕ → Cause → Type 0
   NamedFault = Fault (cond_kind spec) (Named L) (Named L') (compiler_at P) (compiler_at P')
-
-  sample_tail : L (codes ")") Any
-  sample_tail = versions [] (empty refl)
 
   fails_name : (S : Reader Range) (text : List ℕ) → errs (name_at part part text) ≡ true → errs (compiler_at S text) ≡ true
   fails_name S text h = errs_then (name_at part part text) (λ p. S p.1 >>= λ q. Ok ((str_to_ascii_lowercase p.0, q.0), q.1)) h
@@ -125,7 +110,7 @@ module _ (spec : Spec) (n : ℕ) where
   no_name text cause h =
       fault_up_like (cond_kind spec) (Run part part) (Run part part) (name_at part part) (name_at part part) (Named L) (Named L') (compiler_at P) (compiler_at P') []
       (λ t x k. (codes ")", (str_to_ascii_lowercase t, Any), named t (of_run t x k).0 sample_tail))
-      (λ t x k. (codes ")", (str_to_ascii_lowercase t, Any), named t (of_run t x k).0 ((tail_pair spec n).wider (codes ")") Any sample_tail)))
+      (λ t x k. (codes ")", (str_to_ascii_lowercase t, Any), named t (of_run t x k).0 (tails.wider (codes ")") Any sample_tail)))
       text cause (name_fault part part spec 97 refl text cause h) refl
       (λ again like e. fails_name P _ e) (λ again like e. fails_name P' _ e)
 
@@ -134,7 +119,7 @@ module _ (spec : Spec) (n : ℕ) where
   no_tail text name left cause q h =
       let got = run_read part part text name left q in
       let r = of_run got.front name got.is in
-      let f = (tail_pair spec n).fault left cause h in
+      let f = tails.fault left cause h in
       let apart-front : starts part (f.front ++ f.rest) ≡ false = sym (ap (starts part) f.whole) ∙ got.apart in
       let still : (again : List ℕ) → Like no_bytes again f.rest → starts part (f.front ++ again) ≡ false = λ again like. starts_like no_bytes part (λ b d. absurd (false≢true d)) f.front f.rest again like apart-front in
       subst (λ t. NamedFault t cause) (sym got.whole)
@@ -166,12 +151,12 @@ module _ (spec : Spec) (n : ℕ) where
       by (Ok p) q = at p q (P p.1) refl
 
   wider_named : (text : List ℕ) (x : List ℕ × Range) → Named L text x → Named L' text x
-  wider_named text x (named name {text = t} {r = r} h l) = named name h ((tail_pair spec n).wider t r l)
+  wider_named text x (named name {text = t} {r = r} h l) = named name h (tails.wider t r l)
 
   named_pair : Pair (cond_kind spec) (Named L) (Named L') (compiler_at P) (compiler_at P')
   named_pair = record {
-    narrow = reads_named L P (versions_apart spec n) (tail_pair spec n).narrow;
-    wide = reads_named L' P' (wider_apart spec n) (tail_pair spec n).wide;
+    narrow = reads_named L P never tails.narrow;
+    wide = reads_named L' P' never' tails.wide;
     wider = wider_named;
     fault = named_fault;
   }
@@ -188,9 +173,12 @@ module _ (spec : Spec) (n : ℕ) where
   never_open : {A : Type 0} (K : List ℕ → A → Type 0) → Never is_blank (Passing is_open K)
   never_open K text x (passing b {text = t} h l) = (b, t, refl, ap is_blank (eqb-true b 40 h))
 
-  pub impl_pair : Pair (cond_kind spec) (Led (Passing is_open (Led (Named L)))) (Led (Passing is_open (Led (Named L')))) (argument (compiler_at P)) (argument (compiler_at P'))
-  impl_pair =
+  named_in_parentheses : Pair (cond_kind spec) (Led (Passing is_open (Led (Named L)))) (Led (Passing is_open (Led (Named L')))) (argument (compiler_at P)) (argument (compiler_at P'))
+  named_in_parentheses =
       let inner = pair_led (cond_kind spec) (Named L) (Named L') (compiler_at P) (compiler_at P') named_pair (never_blank L) (never_blank L') in
       let opens = pair_due (cond_kind spec) is_open (λ b h. refl) (Led (Named L)) (Led (Named L')) _ _ inner 40 refl
       ([] ++ (97 ∷ [] ++ codes ")")) (codes "a", Any) (led [] refl (named (97 ∷ []) refl sample_tail)) in
       pair_led (cond_kind spec) (Passing is_open (Led (Named L))) (Passing is_open (Led (Named L'))) _ _ opens (never_open (Led (Named L))) (never_open (Led (Named L')))
+
+pub impl_pair : (spec : Spec) (n : ℕ) → Pair (cond_kind spec) (Led (Passing is_open (Led (Named (Versions spec n))))) (Led (Passing is_open (Led (Named (WiderVersions spec n))))) (argument (compiler_at (cond_tail spec n))) (argument (compiler_at (wide_tail spec n)))
+impl_pair spec n = named_in_parentheses spec (Versions spec n) (WiderVersions spec n) (cond_tail spec n) (wide_tail spec n) (tail_pair spec n) (versions_apart spec n) (wider_apart spec n) (versions [] (empty refl))

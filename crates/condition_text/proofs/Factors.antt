@@ -132,6 +132,10 @@ true_opened : (T : List ℕ → Range → Type 0) (m : ℕ) → InnerFactor T (s
 unfolding InnerFactor
 true_opened T m = atom (always refl)
 
+-- conditions with at most so many open at once
+abbrev pub Conditions : (List ℕ → Range → Type 0) → ℕ → List ℕ → Cond → Type 0
+Conditions T m = Terms And Or (Factor T (InnerFactor T m))
+
 module _ (spec : Spec) (n : ℕ) where
   abbrev V : List ℕ → Range → Type 0
   V = Versions spec n
@@ -212,35 +216,29 @@ module _ (spec : Spec) (n : ℕ) where
   unfolding opened_at
   deep_paren text = refl
 
-  paren_zero : Parens zero
-  paren_zero text cause h =
-      let is : TooDeep ≡ cause = cc (h, deep_paren text) in
-      subst (FactorFault zero (40 ∷ text)) is
+  -- stuck at a `(` or `!`, which the wider grammar continues
+  at_opener : (b : ℕ) (text more : List ℕ) (c : Cond) (cause : Cause) → TooDeep ≡ cause → (cond_kind spec).wide b ≡ Some TooDeep → Factor V' (InnerFactor V' (suc zero)) (b ∷ more) c → ((again : List ℕ) → errs (F zero (b ∷ again)) ≡ true) → FactorFault zero (b ∷ text) cause
+  at_opener b text more c cause is names goes fails =
+      subst (FactorFault zero (b ∷ text)) is
       (record {
         front = [];
-        rest = 40 ∷ text;
+        rest = b ∷ text;
         whole = refl;
         more = codes "true";
         value = Always;
         goes_on = atom (always refl);
-        why = wider 40 text refl refl (no_digit_stands (F' zero) []) (codes "true)") Always (inner_factor (codes "true") [] (one (one (led [] refl (true_opened V' zero)))) refl)
-            (still_deep 40 text (λ again. ap errs (at_paren P (opened_at P zero) spec again ∙ deep_paren again)));
+        why = wider b text refl names (no_digit_stands (F' zero) []) more c goes (still_deep b text fails);
       })
+
+  paren_zero : Parens zero
+  paren_zero text cause h =
+      at_opener 40 text (codes "true)") Always cause (cc (h, deep_paren text)) refl (inner_factor (codes "true") [] (one (one (led [] refl (true_opened V' zero)))) refl)
+      (λ again. ap errs (at_paren P (opened_at P zero) spec again ∙ deep_paren again))
 
   bang_zero : Bangs zero
   bang_zero text cause h =
-      let is : TooDeep ≡ cause = cc (h, ap (valued Not) (deep (skip_blanks text))) in
-      subst (FactorFault zero (33 ∷ text)) is
-      (record {
-        front = [];
-        rest = 33 ∷ text;
-        whole = refl;
-        more = codes "true";
-        value = Always;
-        goes_on = atom (always refl);
-        why = wider 33 text refl refl (no_digit_stands (F' zero) []) (codes "true") (Not Always) (negated [] refl (true_opened V' zero))
-            (still_deep 33 text (λ again. ap errs (at_bang P (opened_at P zero) spec again ∙ ap (valued Not) (deep (skip_blanks again)))));
-      })
+      at_opener 33 text (codes "true") (Not Always) cause (cc (h, ap (valued Not) (deep (skip_blanks text)))) refl (negated [] refl (true_opened V' zero))
+      (λ again. ap errs (at_bang P (opened_at P zero) spec again ∙ ap (valued Not) (deep (skip_blanks again))))
 
   -- ---- faults of inner factors
 
@@ -315,17 +313,17 @@ module _ (spec : Spec) (n : ℕ) where
 
   -- ---- whole conditions
 
-  pub cond_rules : (m : ℕ) → Rules (Terms And Or (Factor V (InnerFactor V m))) (AfterTerms (cond_kind spec) refl refl refl) (condition_at P m)
+  pub cond_rules : (m : ℕ) → Rules (Conditions V m) (AfterTerms (cond_kind spec) refl refl refl) (condition_at P m)
   cond_rules m = let r = factors_read V spec P atoms.narrow m in terms_rules (cond_kind spec) refl refl refl And Or (Factor V (InnerFactor V m)) (F m) (factor_unblank V m) r.reads r.read
 
-  pub cond_rules' : (m : ℕ) → Rules (Terms And Or (Factor V' (InnerFactor V' (suc m)))) (AfterTerms (cond_kind spec) refl refl refl) (condition_at P' (suc m))
+  pub cond_rules' : (m : ℕ) → Rules (Conditions V' (suc m)) (AfterTerms (cond_kind spec) refl refl refl) (condition_at P' (suc m))
   cond_rules' m = let r = factors_read V' spec P' atoms.wide (suc m) in terms_rules (cond_kind spec) refl refl refl And Or (Factor V' (InnerFactor V' (suc m))) (F' m) (factor_unblank V' (suc m)) r.reads r.read
 
-  pub wider_conds : (m : ℕ) (text : List ℕ) (c : Cond) → Terms And Or (Factor V (InnerFactor V m)) text c → Terms And Or (Factor V' (InnerFactor V' (suc m))) text c
+  pub wider_conds : (m : ℕ) (text : List ℕ) (c : Cond) → Conditions V m text c → Conditions V' (suc m) text c
   wider_conds m = wider_terms (cond_kind spec) refl refl refl And Or (Factor V (InnerFactor V m)) (Factor V' (InnerFactor V' (suc m))) (wider_factors m)
 
   pub conds_fault : (m : ℕ) (text : List ℕ) (cause : Cause) → condition_at P m text ≡ Err cause
-      → Fault (cond_kind spec) (Terms And Or (Factor V (InnerFactor V m))) (Terms And Or (Factor V' (InnerFactor V' (suc m)))) (condition_at P m) (condition_at P' (suc m)) text cause
+      → Fault (cond_kind spec) (Conditions V m) (Conditions V' (suc m)) (condition_at P m) (condition_at P' (suc m)) text cause
   conds_fault m =
       let r = factors_read V spec P atoms.narrow m in
       let r' = factors_read V' spec P' atoms.wide (suc m) in

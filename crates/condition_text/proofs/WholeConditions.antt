@@ -11,9 +11,7 @@ use Rattle.plan_types.specs.Refusal.{Refuses}
 use Rattle.plan_types.specs.declared.range.Spec.{Spec}
 use Rattle.plan_types.specs.declared.range.Range.{Range}
 use Rattle.plan_types.specs.declared.condition.Cond.{Cond}
-use Rattle.plan_types.specs.declared.condition.Cond.TheVariants.{And, Or}
 use Rattle.plan_types.specs.Bytes.{Blanks, begins_with}
-use Rattle.text_grammar.specs.Parts.{Terms}
 use Rattle.text_grammar.specs.FirstFault.{Viable, Stuck}
 use Rattle.text_grammar.specs.Reading.{◌>>=◌, Gives, skip_blanks}
 use Rattle.text_grammar.proofs.TextKind.{starts}
@@ -27,10 +25,10 @@ use Rattle.text_grammar.proofs.TwoChains.{AfterTerms, after_instead}
 use Rattle.plan_types.specs.Format.{is_old}
 use Rattle.condition_text.specs.Grammar as grammar
 use Rattle.condition_text.specs.Grammar.{Versions, WiderVersions, Factor, InnerFactor, Reads, reads, Stands, Wider, WiderAt, too_deep, needs_version, CauseAt, bad_cond, FirstFault}
-use Rattle.condition_text.specs.Reading.{cond_tail, condition_at, ended, whole_at, cond_of}
+use Rattle.condition_text.specs.Reading.{cond_tail, condition_at, ended, whole_at, whole_by, opened_at}
 use Rattle.condition_text.proofs.CondKind.{no_bytes, cond_kind, is_opener, apart, ends_none}
 use Rattle.condition_text.proofs.CondTails.{wide_tail}
-use Rattle.condition_text.proofs.Factors.{cond_rules, cond_rules', wider_conds, conds_fault}
+use Rattle.condition_text.proofs.Factors.{Conditions, cond_rules, cond_rules', wider_conds, conds_fault}
 
 ended_ok : (p : Cond × List ℕ) → (length (skip_blanks p.1) == 0) ≡ true → ended p ≡ Ok p.0
 ended_ok p e = rw e refl
@@ -40,7 +38,7 @@ ended_err p e = rw e refl
 
 -- ---- a reader is correct for its language
 
-module _ (spec : Spec) (T : List ℕ → Range → Type 0) (m : ℕ) (P : Reader Cond) (rules : Rules (Terms And Or (Factor T (InnerFactor T m))) (AfterTerms (cond_kind spec) refl refl refl) P) where
+module _ (spec : Spec) (T : List ℕ → Range → Type 0) (m : ℕ) (P : Reader Cond) (rules : Rules (Conditions T m) (AfterTerms (cond_kind spec) refl refl refl) P) where
   after_end : (front after : List ℕ) → Blanks after → AfterTerms (cond_kind spec) refl refl refl front after
   after_end front after are = ((apart front after, ap (begins_with 38) (skip_all after are)), ap (begins_with 124) (skip_all after are))
 
@@ -63,12 +61,6 @@ module _ (spec : Spec) (T : List ℕ → Range → Type 0) (m : ℕ) (P : Reader
       by (Ok p) q = at p q (length (skip_blanks p.1) == 0) refl (sym (ap (λ o. o >>= ended) q) ∙ h)
 
 module _ (spec : Spec) (n : ℕ) where
-  abbrev V : List ℕ → Range → Type 0
-  V = Versions spec n
-
-  abbrev V' : List ℕ → Range → Type 0
-  V' = WiderVersions spec n
-
   abbrev P : Reader Cond
   P = condition_at (cond_tail spec n) n
 
@@ -76,10 +68,10 @@ module _ (spec : Spec) (n : ℕ) where
   P' = condition_at (wide_tail spec n) (suc n)
 
   abbrev C : List ℕ → Cond → Type 0
-  C = Terms And Or (Factor V (InnerFactor V n))
+  C = Conditions (Versions spec n) n
 
   abbrev C' : List ℕ → Cond → Type 0
-  C' = Terms And Or (Factor V' (InnerFactor V' (suc n)))
+  C' = Conditions (WiderVersions spec n) (suc n)
 
   abbrev W : List ℕ → Result Cond Cause
   W text = P text >>= ended
@@ -88,13 +80,13 @@ module _ (spec : Spec) (n : ℕ) where
   W' text = P' text >>= ended
 
   pub finds : (text : List ℕ) (c : Cond) → Stands spec n text c → W text ≡ Ok c
-  finds = whole_finds spec V n P (cond_rules spec n n)
+  finds = whole_finds spec (Versions spec n) n P (cond_rules spec n n)
 
   finds' : (text : List ℕ) (c : Cond) → Wider spec n text c → W' text ≡ Ok c
-  finds' = whole_finds spec V' (suc n) P' (cond_rules' spec n n)
+  finds' = whole_finds spec (WiderVersions spec n) (suc n) P' (cond_rules' spec n n)
 
   pub found : (text : List ℕ) (c : Cond) → W text ≡ Ok c → Stands spec n text c
-  found = whole_found spec V n P (cond_rules spec n n)
+  found = whole_found spec (Versions spec n) n P (cond_rules spec n n)
 
   widens : (text : List ℕ) (c : Cond) → Stands spec n text c → Wider spec n text c
   widens text c (reads front after l are) = reads front after (wider_conds spec n n front c l) are
@@ -229,23 +221,33 @@ module _ (spec : Spec) (n : ℕ) where
 -- ---- results of calls
 
 module _ (spec : Spec) (text : List ℕ) where
-  of_is : cond_of spec text ≡ whole_at (cond_tail spec 64) 64 text
-  unfolding cond_of
+  -- the first `(` or `!` takes one of 65
+  abbrev read : Result Cond Cause
+  read = whole_by (opened_at (cond_tail spec 64) 65) text
+
+  of_is : read ≡ whole_at (cond_tail spec 64) 64 text
+  unfolding opened_at
   of_is = refl
 
-  pub cond_found : (answer : Result Cond TextFault) → Gives (λ c. c) answer (cond_of spec text) → IfOk answer (λ c. Stands spec 64 text c)
+  cond_found : (answer : Result Cond TextFault) → Gives (λ c. c) answer read → IfOk answer (λ c. Stands spec 64 text c)
   cond_found (Ok c) h = found spec 64 text c (sym of_is ∙ h)
   cond_found (Err fault) h = tt
 
-  pub fault_found : (answer : Result Cond TextFault) → Gives (λ c. c) answer (cond_of spec text) → IfErr answer (Refuses (FirstFault spec 64 text))
+  fault_found : (answer : Result Cond TextFault) → Gives (λ c. c) answer read → IfErr answer (Refuses (FirstFault spec 64 text))
   fault_found (Ok c) h = tt
   fault_found (Err NoMemory) h = tt
   fault_found (Err (Bad cause)) h = first_fault spec 64 text cause (sym of_is ∙ h)
 
-  pub only_condition : (answer : Result Cond TextFault) → IfOk answer (λ c. Stands spec 64 text c) → IfErr answer (Refuses (FirstFault spec 64 text))
-      → (c : Cond) → Stands spec 64 text c → MatchResult answer (λ found. found ≡ c) (Refuses (λ cause. ⊥))
-  only_condition = exactly.only_value (Stands spec 64) (CauseAt spec 64) (one_cause spec 64) text (one_condition spec 64 text)
-
-  pub only_fault : (answer : Result Cond TextFault) → IfOk answer (λ c. Stands spec 64 text c) → IfErr answer (Refuses (FirstFault spec 64 text))
-      → (cause : Cause) → FirstFault spec 64 text cause → MatchResult answer (λ found. ⊥) (Refuses (λ why. why ≡ cause))
-  only_fault = exactly.only_fault (Stands spec 64) (CauseAt spec 64) (one_cause spec 64) text (one_condition spec 64 text)
+  -- what a call returns, when it gives what the reader gives
+  pub answered : (answer : Result Cond TextFault) → Gives (λ c. c) answer read
+      → IfOk answer (λ c. Stands spec 64 text c) × IfErr answer (Refuses (FirstFault spec 64 text))
+      × ((c : Cond) → Stands spec 64 text c → MatchResult answer (λ found. found ≡ c) (Refuses (λ cause. ⊥)))
+      × ((cause : Cause) → FirstFault spec 64 text cause → MatchResult answer (λ found. ⊥) (Refuses (λ why. why ≡ cause)))
+  answered answer h =
+      let c = cond_found answer h in
+      let f = fault_found answer h in (
+        c,
+        f,
+        exactly.only_value (Stands spec 64) (CauseAt spec 64) (one_cause spec 64) text (one_condition spec 64 text) answer c f,
+        exactly.only_fault (Stands spec 64) (CauseAt spec 64) (one_cause spec 64) text (one_condition spec 64 text) answer c f,
+      )

@@ -1,5 +1,5 @@
 -- The reader of conditions, from left to right. The language and its first faults are in Grammar.
-use Rattle.std.specs.Prelude.{ℕ, zero, suc, Bool, ◌&&◌, ◌==◌, not, if◌then◌else◌, List, [], ◌∷◌, codes, length, Some, None, Result, Ok, Err}
+use Rattle.std.specs.Prelude.{ℕ, zero, suc, Bool, ◌&&◌, ◌==◌, not, if◌then◌else◌, List, [], ◌∷◌, codes, length, Option, Some, None, Result, Ok, Err}
 use Rattle.std.specs.Str.{str_to_ascii_lowercase}
 use Rattle.plan_types.specs.Name.{is_letter_or_digit, is_component_byte}
 use Rattle.plan_types.specs.declared.condition.Cond.{Cond}
@@ -9,9 +9,11 @@ use Rattle.plan_types.specs.declared.range.Range.TheVariants.{Any}
 use Rattle.plan_types.specs.declared.range.Spec.{Spec}
 use Rattle.plan_types.specs.declared.refusal.Cause.{Cause}
 use Rattle.plan_types.specs.declared.refusal.Cause.TheVariants.{NotUtf8, StrayBrace, UnclosedBrace, BadName, TooDeep, BadVersion, BadRange, NeedsVersion, BadCond, BadDepend, BadConstraint, MissingField, WrongCabalVersion, BadField, DuplicateName, UnknownStanza, UnknownFlag, ImportNotFirst, ElseWithoutIf, UnknownComponent, ComponentCycle, TooManyPaths, Unsupported, NoMatch, TwoCabalFiles, NoPackages, TooLarge, WrongPlace, BadRecord, DuplicateLocal, DuplicateUnit, TooMany, BadEvent}
-use Rattle.text_grammar.specs.Reading.{◌>>=◌, skip_blanks, byte_after, byte_due, letter_after, word_due, terms_at, valued}
+use Rattle.text_grammar.specs.Reading.{◌>>=◌, skip_blanks, byte_after, byte_due, letter_after, word_due, next_at, term_at, terms_at, chained, valued}
 use Rattle.version_range.specs.Read.{range_in, inside, missing}
 use Rattle.conditionals.specs.Environment.{system_of}
+use Rattle.condition_text.specs.declared.read.Joint.{Joint}
+use Rattle.condition_text.specs.declared.read.Joint.TheVariants as joints
 
 -- the cause where another byte is due
 abbrev pub bad : List ℕ → Cause
@@ -140,6 +142,29 @@ from_f tail text = elim (letter_after 102 text) [ None ↦ from_o tail text | So
 unfoldable pub atom_at : (List ℕ → Result (Range × List ℕ) Cause) → List ℕ → Result (Cond × List ℕ) Cause
 atom_at tail text = elim (letter_after 116 text) [ None ↦ from_f tail text | Some rest ↦ word_at (codes "rue") (λ t. Ok (Always, t)) rest ]
 
+-- a condition of two parts
+abbrev pub joined : Joint → Cond → Cond → Cond
+joined joints.And left right = And left right
+joined joints.Or left right = Or left right
+
+-- the byte that stands twice between parts
+abbrev pub joint_byte : Joint → ℕ
+joint_byte joints.And = 38
+joint_byte joints.Or = 124
+
+-- a part of a chain: a factor, or a term
+abbrev pub part_at : Joint → (List ℕ → Result (Cond × List ℕ) Cause) → List ℕ → Result (Cond × List ℕ) Cause
+part_at joints.And factor text = factor (skip_blanks text)
+part_at joints.Or factor text = term_at And bad factor text
+
+-- the next part of a chain
+abbrev pub next_part : Joint → (List ℕ → Result (Cond × List ℕ) Cause) → List ℕ → Result (Option (Cond × List ℕ)) Cause
+next_part joint factor = next_at (part_at joint factor) bad (joint_byte joint)
+
+-- a chain of parts: a term, or terms
+abbrev pub chain_at : Joint → (List ℕ → Result (Cond × List ℕ) Cause) → List ℕ → Result (Cond × List ℕ) Cause
+chain_at joint factor text = part_at joint factor text >>= chained (joined joint) (next_part joint factor)
+
 -- a factor: `!` and a factor, a condition in parentheses, or an atom; `inner_factor` reads the inner factors
 unfoldable pub factor_at : (List ℕ → Result (Range × List ℕ) Cause) → (List ℕ → Result (Cond × List ℕ) Cause) → List ℕ → Result (Cond × List ℕ) Cause
 factor_at tail inner_factor text =
@@ -161,10 +186,10 @@ condition_at tail n = terms_at And Or bad (factor_at tail (opened_at tail n))
 abbrev pub ended : Cond × List ℕ → Result Cond Cause
 ended r = if length (skip_blanks r.1) == 0 then Ok r.0 else Err BadCond
 
+-- a condition of such factors that is the whole text
+abbrev pub whole_by : (List ℕ → Result (Cond × List ℕ) Cause) → List ℕ → Result Cond Cause
+whole_by factor text = terms_at And Or bad factor text >>= ended
+
 -- a condition that is the whole text
 abbrev pub whole_at : (List ℕ → Result (Range × List ℕ) Cause) → ℕ → List ℕ → Result Cond Cause
 whole_at tail n text = condition_at tail n text >>= ended
-
--- the condition of a text, or its first fault
-unfoldable pub cond_of : Spec → List ℕ → Result Cond Cause
-cond_of spec text = whole_at (cond_tail spec 64) 64 text

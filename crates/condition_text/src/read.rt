@@ -4,9 +4,9 @@ ghost use Rattle.std.specs.Option.{option_map};
 ghost use Rattle.plan_types.specs.Refusal.{Refuses};
 ghost use Rattle.plan_types.specs.declared.condition.Cond.{Cond};
 ghost use Rattle.plan_types.specs.declared.refusal.Cause.{Cause};
-ghost use Rattle.text_grammar.specs.Reading.{Gives, skip_blanks, byte_due, behind_twice, next_at, term_at, terms_at, chained};
+ghost use Rattle.text_grammar.specs.Reading.{Gives, skip_blanks, byte_due, behind_twice, chained};
 ghost use Rattle.condition_text.specs.Grammar.{Stands, FirstFault};
-ghost use Rattle.condition_text.specs.Reading.{bad, cond_tail, opened_at, factor_at, cond_of};
+ghost use Rattle.condition_text.specs.Reading.{bad, cond_tail, joint_byte, joined, part_at, next_part, chain_at, opened_at, factor_at, whole_by};
 
 use crate::name::{bad_cond, closed};
 use crate::words::atom_at;
@@ -14,16 +14,33 @@ use plan_types::{Cause, Cond, NoMemory, Shared, Spec, TextFault};
 use std::alloc::Global;
 use text_grammar::{byte_after, skip_blanks};
 
-fn both(alloc: Global, left: Cond, right: Cond) -> Result<Cond, NoMemory>
-    ensures { IfOk result (λ c. c ≡ Cond.And left right) }
-{
-    Ok(Cond::And(Shared::new(alloc, left)?, Shared::new(alloc, right)?))
+// How the parts of a chain are joined: factors by `&&`, or terms by `||`.
+#[derive(Clone, Copy)]
+pub enum Joint {
+    And,
+    Or,
 }
 
-fn either(alloc: Global, left: Cond, right: Cond) -> Result<Cond, NoMemory>
-    ensures { IfOk result (λ c. c ≡ Cond.Or left right) }
-{
-    Ok(Cond::Or(Shared::new(alloc, left)?, Shared::new(alloc, right)?))
+impl Joint {
+    fn byte(self) -> u8
+        ensures { result ≡ joint_byte self }
+    {
+        match self {
+            Joint::And => b'&',
+            Joint::Or => b'|',
+        }
+    }
+
+    fn join(self, alloc: Global, left: Cond, right: Cond) -> Result<Cond, NoMemory>
+        ensures { IfOk result (λ c. c ≡ joined self left right) }
+    {
+        let left = Shared::new(alloc, left)?;
+        let right = Shared::new(alloc, right)?;
+        Ok(match self {
+            Joint::And => Cond::And(left, right),
+            Joint::Or => Cond::Or(left, right),
+        })
+    }
 }
 
 fn negated(alloc: Global, inner: Cond) -> Result<Cond, NoMemory>
@@ -54,139 +71,99 @@ fn behind(text: &[u8], byte: u8) -> Result<Option<&[u8]>, TextFault>
     }
 }
 
-// A factor, if any room is left. Each `(` and `!` around a factor takes one of `room`.
-#[cycle(reading)]
-#[tactic(auto, unfolding(crate::specs::Reading::opened_at))]
-fn inner_factor(
+// What the readers of a factor's parts share. `room` is how many more `(` and `!` may be open at once.
+#[derive(Clone, Copy)]
+pub struct Scope {
     alloc: Global,
     spec: Spec,
     room: u32,
-    text: &[u8],
-) -> Result<(Cond, &[u8]), TextFault>
-    ensures gives { Gives (λ p. (p.0, p.1.now)) result (opened_at (cond_tail spec 64) room text.now) }
+}
+
+// A factor, if any room is left. Each `(` and `!` around a factor takes one of `room`.
+#[cycle(reading)]
+#[tactic(auto, unfolding(crate::specs::Reading::opened_at))]
+fn inner_factor(scope: Scope, text: &[u8]) -> Result<(Cond, &[u8]), TextFault>
+    ensures gives { Gives (λ p. (p.0, p.1.now)) result (opened_at (cond_tail scope.spec 64) scope.room text.now) }
     ensures within { IfOk result (λ p. length p.1.now < length text.now) }
 {
-    if room == 0 {
+    if scope.room == 0 {
         return Err(TextFault::Bad(Cause::TooDeep));
     }
-    factor_at(alloc, spec, room - 1, text)
+    let inner = Scope {
+        alloc: scope.alloc,
+        spec: scope.spec,
+        room: scope.room - 1,
+    };
+    factor_at(inner, text)
 }
 
 #[cycle(reading)]
 #[tactic(auto, unfolding(crate::specs::Reading::factor_at))]
-fn factor_at(alloc: Global, spec: Spec, room: u32, text: &[u8]) -> Result<(Cond, &[u8]), TextFault>
+fn factor_at(scope: Scope, text: &[u8]) -> Result<(Cond, &[u8]), TextFault>
     ensures gives { Gives (λ p. (p.0, p.1.now)) result
-        (factor_at (cond_tail spec 64) (opened_at (cond_tail spec 64) room) text.now) }
+        (factor_at (cond_tail scope.spec 64) (opened_at (cond_tail scope.spec 64) scope.room) text.now) }
     ensures within { IfOk result (λ p. length p.1.now < length text.now) }
 {
     if let Some(rest) = byte_after(text, b'(') {
-        let (condition, rest) = terms_at(alloc, spec, room, rest)?;
+        let (condition, rest) = chain_at(scope, Joint::Or, rest)?;
         let rest = closed(rest)?;
         return Ok((condition, rest));
     }
     if let Some(rest) = byte_after(text, b'!') {
-        let (condition, rest) = inner_factor(alloc, spec, room, skip_blanks(rest))?;
-        return Ok((negated(alloc, condition)?, rest));
+        let (condition, rest) = inner_factor(scope, skip_blanks(rest))?;
+        return Ok((negated(scope.alloc, condition)?, rest));
     }
-    atom_at(alloc, spec, text)
+    atom_at(scope.alloc, scope.spec, text)
+}
+
+// A factor, or a term of factors.
+#[cycle(reading)]
+fn part_at(scope: Scope, joint: Joint, text: &[u8]) -> Result<(Cond, &[u8]), TextFault>
+    ensures gives { Gives (λ p. (p.0, p.1.now)) result
+        (part_at joint (opened_at (cond_tail scope.spec 64) scope.room) text.now) }
+    ensures within { IfOk result (λ p. length p.1.now < length text.now) }
+{
+    match joint {
+        Joint::And => inner_factor(scope, skip_blanks(text)),
+        Joint::Or => chain_at(scope, Joint::And, text),
+    }
 }
 
 #[cycle(reading)]
-fn next_factor(
-    alloc: Global,
-    spec: Spec,
-    room: u32,
-    text: &[u8],
-) -> Result<Option<(Cond, &[u8])>, TextFault>
+fn next_part(scope: Scope, joint: Joint, text: &[u8]) -> Result<Option<(Cond, &[u8])>, TextFault>
     ensures gives { Gives (option_map (λ p. (p.0, p.1.now))) result
-        (next_at (λ t. opened_at (cond_tail spec 64) room (skip_blanks t)) bad 38 text.now) }
+        (next_part joint (opened_at (cond_tail scope.spec 64) scope.room) text.now) }
     ensures within { IfOk result (λ found. IfSome found (λ p. length p.1.now < length text.now)) }
 {
-    match behind(text, b'&')? {
+    match behind(text, joint.byte())? {
         None => Ok(None),
-        Some(rest) => Ok(Some(inner_factor(alloc, spec, room, skip_blanks(rest))?)),
+        Some(rest) => Ok(Some(part_at(scope, joint, rest)?)),
     }
 }
 
 #[cycle(reading)]
-fn factors_after(
-    alloc: Global,
-    spec: Spec,
-    room: u32,
-    first: Cond,
-    text: &[u8],
-) -> Result<(Cond, &[u8]), TextFault>
+fn chained(scope: Scope, joint: Joint, first: Cond, text: &[u8]) -> Result<(Cond, &[u8]), TextFault>
     ensures gives { Gives (λ p. (p.0, p.1.now)) result
-        (chained Cond.And (next_at (λ t. opened_at (cond_tail spec 64) room (skip_blanks t)) bad 38)
-        (first, text.now)) }
+        (chained (joined joint) (next_part joint (opened_at (cond_tail scope.spec 64) scope.room)) (first, text.now)) }
     ensures within { IfOk result (λ p. length p.1.now ≤ length text.now) }
 {
     let mut left = first;
     let mut rest = text;
-    while let Some((right, more)) = next_factor(alloc, spec, room, rest)? {
-        left = both(alloc, left, right)?;
+    while let Some((right, more)) = next_part(scope, joint, rest)? {
+        left = joint.join(scope.alloc, left, right)?;
         rest = more;
     }
     Ok((left, rest))
 }
 
 #[cycle(reading)]
-fn term_at(alloc: Global, spec: Spec, room: u32, text: &[u8]) -> Result<(Cond, &[u8]), TextFault>
+fn chain_at(scope: Scope, joint: Joint, text: &[u8]) -> Result<(Cond, &[u8]), TextFault>
     ensures gives { Gives (λ p. (p.0, p.1.now)) result
-        (term_at Cond.And bad (opened_at (cond_tail spec 64) room) text.now) }
+        (chain_at joint (opened_at (cond_tail scope.spec 64) scope.room) text.now) }
     ensures within { IfOk result (λ p. length p.1.now < length text.now) }
 {
-    let (first, rest) = inner_factor(alloc, spec, room, skip_blanks(text))?;
-    factors_after(alloc, spec, room, first, rest)
-}
-
-#[cycle(reading)]
-fn next_term(
-    alloc: Global,
-    spec: Spec,
-    room: u32,
-    text: &[u8],
-) -> Result<Option<(Cond, &[u8])>, TextFault>
-    ensures gives { Gives (option_map (λ p. (p.0, p.1.now))) result
-        (next_at (term_at Cond.And bad (opened_at (cond_tail spec 64) room)) bad 124 text.now) }
-    ensures within { IfOk result (λ found. IfSome found (λ p. length p.1.now < length text.now)) }
-{
-    match behind(text, b'|')? {
-        None => Ok(None),
-        Some(rest) => Ok(Some(term_at(alloc, spec, room, rest)?)),
-    }
-}
-
-#[cycle(reading)]
-fn terms_after(
-    alloc: Global,
-    spec: Spec,
-    room: u32,
-    first: Cond,
-    text: &[u8],
-) -> Result<(Cond, &[u8]), TextFault>
-    ensures gives { Gives (λ p. (p.0, p.1.now)) result
-        (chained Cond.Or (next_at (term_at Cond.And bad (opened_at (cond_tail spec 64) room)) bad 124)
-        (first, text.now)) }
-    ensures within { IfOk result (λ p. length p.1.now ≤ length text.now) }
-{
-    let mut left = first;
-    let mut rest = text;
-    while let Some((right, more)) = next_term(alloc, spec, room, rest)? {
-        left = either(alloc, left, right)?;
-        rest = more;
-    }
-    Ok((left, rest))
-}
-
-#[cycle(reading)]
-fn terms_at(alloc: Global, spec: Spec, room: u32, text: &[u8]) -> Result<(Cond, &[u8]), TextFault>
-    ensures gives { Gives (λ p. (p.0, p.1.now)) result
-        (terms_at Cond.And Cond.Or bad (opened_at (cond_tail spec 64) room) text.now) }
-    ensures within { IfOk result (λ p. length p.1.now < length text.now) }
-{
-    let (first, rest) = term_at(alloc, spec, room, text)?;
-    terms_after(alloc, spec, room, first, rest)
+    let (first, rest) = part_at(scope, joint, text)?;
+    chained(scope, joint, first, rest)
 }
 
 /// Reads a condition: terms joined by `||`, each of factors joined by `&&`, both left-associative. The fault is
@@ -201,14 +178,18 @@ pub fn read_cond(alloc: Global, text: &[u8], spec: Spec) -> Result<Cond, TextFau
     ensures exactly_faults { (cause : Cause) → FirstFault spec 64 text.now cause →
         MatchResult result (λ _. ⊥) (Refuses (λ why. why ≡ cause)) }
 {
-    whole(alloc, text, spec)
+    let scope = Scope {
+        alloc,
+        spec,
+        room: 65,
+    };
+    whole(scope, text)
 }
 
-#[tactic(auto, unfolding(crate::specs::Reading::cond_of, crate::specs::Reading::opened_at))]
-fn whole(alloc: Global, text: &[u8], spec: Spec) -> Result<Cond, TextFault>
-    ensures { Gives (λ c. c) result (cond_of spec text.now) }
+fn whole(scope: Scope, text: &[u8]) -> Result<Cond, TextFault>
+    ensures { Gives (λ c. c) result (whole_by (opened_at (cond_tail scope.spec 64) scope.room) text.now) }
 {
-    let (condition, rest) = terms_at(alloc, spec, 65, text)?;
+    let (condition, rest) = chain_at(scope, Joint::Or, text)?;
     if skip_blanks(rest).is_empty() {
         Ok(condition)
     } else {
