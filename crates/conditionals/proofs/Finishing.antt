@@ -10,7 +10,7 @@ use Rattle.conditionals.specs.declared.path.WantedPaths.{WantedPaths}
 use Rattle.conditionals.specs.declared.path.PathStep.{PathStep}
 use Rattle.conditionals.specs.declared.path.PathStep.TheVariants as step
 use Rattle.conditionals.specs.Paths.{Path, followed, paths_of}
-use Rattle.conditionals.specs.Steps.{needed, lists_of, all_lists, join_and, join_or, step_up, finish, IsSmaller, left_of_and, left_of_or, asked}
+use Rattle.conditionals.specs.Steps.{needed, lists_of, join_and, join_or, step_up, finish, IsSmaller, left_of_and, left_of_or, asked}
 use Rattle.conditionals.proofs.ConditionLayers.{paths_Not, paths_And, paths_Or}
 
 finish_push : (env : Env) (steps : List PathStep) (step : PathStep) (lists : BothPaths) → finish env (steps ++ step ∷ []) lists ≡ finish env steps (step_up env step lists)
@@ -109,21 +109,21 @@ asked_or need left right = λ i. record { yes = asked_yes need left.yes left.no 
 pub leads_not : (env : Env) (s inner : Cond) (need : WantedPaths) → s ≡ Not inner → lists_of env s need ≡ step_up env step.Not (lists_of env inner (record { yes = need.no; no = need.yes }))
 leads_not env s inner need e = λ i. record { yes = needed need.yes (paths_Not env s inner e i true); no = needed need.no (paths_Not env s inner e i false) }
 
-pub leads_and : (env : Env) (s l : Cond) (r : Bor Cond) (need part : WantedPaths) (yes-number no-number : ℕ) → s ≡ And l r.now
-    → yes-number ≡ min (length (paths_of env r.now true)) (2 ^ 64 - 1) → no-number ≡ min (length (paths_of env r.now false)) (2 ^ 64 - 1) → part ≡ left_of_and need (nat_lt 0 yes-number) (nat_lt 0 no-number)
-    → lists_of env s need ≡ step_up env (step.And r need) (lists_of env l part)
-leads_and env s l r need part yes-number no-number e ys ns p =
-    (λ i. record { yes = needed need.yes (paths_And env s l r.now e i true); no = needed need.no (paths_And env s l r.now e i false) })
-    ∙ joins_and (paths_of env l true) (paths_of env l false) (paths_of env r.now true) (paths_of env r.now false) (nat_lt 0 yes-number) (nat_lt 0 no-number) (no_paths yes-number _ ys) (no_paths no-number _ ns) need.yes need.no
-    ∙ ap (λ n. join_and need (lists_of env l n) (all_lists env r.now)) (sym p)
+-- the numbers of the paths of a right side
+abbrev pub AreCounts : Env → Cond → ℕ → ℕ → Type 0
+AreCounts env right yes-number no-number = (yes-number ≡ min (length (paths_of env right true)) (2 ^ 64 - 1)) × (no-number ≡ min (length (paths_of env right false)) (2 ^ 64 - 1))
 
-pub leads_or : (env : Env) (s l : Cond) (r : Bor Cond) (need part : WantedPaths) (yes-number no-number : ℕ) → s ≡ Or l r.now
-    → yes-number ≡ min (length (paths_of env r.now true)) (2 ^ 64 - 1) → no-number ≡ min (length (paths_of env r.now false)) (2 ^ 64 - 1) → part ≡ left_of_or need (nat_lt 0 yes-number) (nat_lt 0 no-number)
-    → lists_of env s need ≡ step_up env (step.Or r need) (lists_of env l part)
-leads_or env s l r need part yes-number no-number e ys ns p =
+pub leads_and : (env : Env) (s l : Cond) (r : Bor Cond) (need : WantedPaths) (yes-number no-number : ℕ) → s ≡ And l r.now → AreCounts env r.now yes-number no-number
+    → lists_of env s need ≡ step_up env (step.And r need) (lists_of env l (left_of_and need (nat_lt 0 yes-number) (nat_lt 0 no-number)))
+leads_and env s l r need yes-number no-number e counts =
+    (λ i. record { yes = needed need.yes (paths_And env s l r.now e i true); no = needed need.no (paths_And env s l r.now e i false) })
+    ∙ joins_and (paths_of env l true) (paths_of env l false) (paths_of env r.now true) (paths_of env r.now false) (nat_lt 0 yes-number) (nat_lt 0 no-number) (no_paths yes-number _ counts.0) (no_paths no-number _ counts.1) need.yes need.no
+
+pub leads_or : (env : Env) (s l : Cond) (r : Bor Cond) (need : WantedPaths) (yes-number no-number : ℕ) → s ≡ Or l r.now → AreCounts env r.now yes-number no-number
+    → lists_of env s need ≡ step_up env (step.Or r need) (lists_of env l (left_of_or need (nat_lt 0 yes-number) (nat_lt 0 no-number)))
+leads_or env s l r need yes-number no-number e counts =
     (λ i. record { yes = needed need.yes (paths_Or env s l r.now e i true); no = needed need.no (paths_Or env s l r.now e i false) })
-    ∙ joins_or (paths_of env l true) (paths_of env l false) (paths_of env r.now true) (paths_of env r.now false) (nat_lt 0 yes-number) (nat_lt 0 no-number) (no_paths yes-number _ ys) (no_paths no-number _ ns) need.yes need.no
-    ∙ ap (λ n. join_or need (lists_of env l n) (all_lists env r.now)) (sym p)
+    ∙ joins_or (paths_of env l true) (paths_of env l false) (paths_of env r.now true) (paths_of env r.now false) (nat_lt 0 yes-number) (nat_lt 0 no-number) (no_paths yes-number _ counts.0) (no_paths no-number _ counts.1) need.yes need.no
 
 -- a pending operand is smaller than the whole
 pub waits_below : (cond : Cond) (steps left : List PathStep) (seen step : PathStep) → steps ≡ left ++ seen ∷ [] → seen ≡ step → All (IsSmaller cond) steps → All (IsSmaller cond) left × IsSmaller cond step

@@ -29,57 +29,34 @@ one_and true false = refl
 one_and false true = refl
 one_and false false = refl
 
+by_value : (P : Tri → Type 0) → P Yes → P No → P Unknown → (v : Tri) → P v
+by_value P is_yes is_no is_unknown Yes = is_yes
+by_value P is_yes is_no is_unknown No = is_no
+by_value P is_yes is_no is_unknown Unknown = is_unknown
+
 not_wanted : (want : Bool) (v : Tri) → is_wanted (not want) v ≡ is_wanted want (negated v)
-not_wanted true Yes = refl
-not_wanted true No = refl
-not_wanted true Unknown = refl
-not_wanted false Yes = refl
-not_wanted false No = refl
-not_wanted false Unknown = refl
+not_wanted true v = by_value (λ v. is_wanted false v ≡ is_wanted true (negated v)) refl refl refl v
+not_wanted false v = by_value (λ v. is_wanted true v ≡ is_wanted false (negated v)) refl refl refl v
 
 and_yes : (v w : Tri) → one (is_wanted true v) * one (is_wanted true w) ≡ one (is_wanted true (and_then v w))
-and_yes Yes Yes = refl
-and_yes Yes No = refl
-and_yes Yes Unknown = refl
-and_yes No Yes = refl
-and_yes No No = refl
-and_yes No Unknown = refl
-and_yes Unknown Yes = refl
-and_yes Unknown No = refl
-and_yes Unknown Unknown = refl
+and_yes Yes w = omega arith
+and_yes No w = omega arith
+and_yes Unknown w = omega arith
 
 and_no : (v w : Tri) → one (is_wanted false v) + one (is_wanted true v) * one (is_wanted false w) ≡ one (is_wanted false (and_then v w))
-and_no Yes Yes = refl
-and_no Yes No = refl
-and_no Yes Unknown = refl
-and_no No Yes = refl
-and_no No No = refl
-and_no No Unknown = refl
-and_no Unknown Yes = refl
-and_no Unknown No = refl
-and_no Unknown Unknown = refl
+and_no Yes w = omega arith
+and_no No w = omega arith
+and_no Unknown w = omega arith
 
 or_yes : (v w : Tri) → one (is_wanted true v) + one (is_wanted false v) * one (is_wanted true w) ≡ one (is_wanted true (or_else v w))
-or_yes Yes Yes = refl
-or_yes Yes No = refl
-or_yes Yes Unknown = refl
-or_yes No Yes = refl
-or_yes No No = refl
-or_yes No Unknown = refl
-or_yes Unknown Yes = refl
-or_yes Unknown No = refl
-or_yes Unknown Unknown = refl
+or_yes Yes w = omega arith
+or_yes No w = omega arith
+or_yes Unknown w = omega arith
 
 or_no : (v w : Tri) → one (is_wanted false v) * one (is_wanted false w) ≡ one (is_wanted false (or_else v w))
-or_no Yes Yes = refl
-or_no Yes No = refl
-or_no Yes Unknown = refl
-or_no No Yes = refl
-or_no No No = refl
-or_no No Unknown = refl
-or_no Unknown Yes = refl
-or_no Unknown No = refl
-or_no Unknown Unknown = refl
+or_no Yes w = omega arith
+or_no No w = omega arith
+or_no Unknown w = omega arith
 
 one_setting : (known : Option Bool) (want : Bool) → 0 + one (has_setting known want && true) ≡ one (is_wanted want (flag_value known))
 one_setting None true = refl

@@ -70,25 +70,26 @@ length_followed (path ∷ first) second =
 abbrev pub Joins : ℕ → ℕ → ℕ → ℕ → ℕ → ℕ → Type 0
 Joins whole-yes whole-no left-yes left-no right-yes right-no = (whole-yes ≡ left-yes * right-yes) × (whole-no ≡ left-no + left-yes * right-no)
 
+joined_numbers : (whole-yes whole-no left-yes left-no right-yes right-no : List Path) → whole-yes ≡ followed left-yes right-yes → whole-no ≡ left-no ++ followed left-yes right-no
+    → Joins (length whole-yes) (length whole-no) (length left-yes) (length left-no) (length right-yes) (length right-no)
+joined_numbers whole-yes whole-no left-yes left-no right-yes right-no is-yes is-no = (
+  ap length is-yes ∙ length_followed left-yes right-yes,
+  ap length is-no ∙ length-append left-no (followed left-yes right-no) ∙ ap (λ n. length left-no + n) (length_followed left-yes right-no),
+)
+
 module _ (env : Env) where
   abbrev pub number : Cond → Bool → ℕ
   number cond want = length (paths_of env cond want)
 
   pub numbers_And : (s l r : Cond) → s ≡ And l r → Joins (number s true) (number s false) (number l true) (number l false) (number r true) (number r false)
   numbers_And s l r e =
-      let yes = ap (λ f. length (f true)) (paths_And env s l r e) in
-      let no = ap (λ f. length (f false)) (paths_And env s l r e) in (
-        yes ∙ length_followed (paths_of env l true) (paths_of env r true),
-        no ∙ length-append (paths_of env l false) (followed (paths_of env l true) (paths_of env r false)) ∙ ap (λ n. number l false + n) (length_followed (paths_of env l true) (paths_of env r false)),
-      )
+      let parts = paths_And env s l r e in
+      joined_numbers _ _ (paths_of env l true) (paths_of env l false) (paths_of env r true) (paths_of env r false) (ap (λ f. f true) parts) (ap (λ f. f false) parts)
 
   pub numbers_Or : (s l r : Cond) → s ≡ Or l r → Joins (number s false) (number s true) (number l false) (number l true) (number r false) (number r true)
   numbers_Or s l r e =
-      let yes = ap (λ f. length (f true)) (paths_Or env s l r e) in
-      let no = ap (λ f. length (f false)) (paths_Or env s l r e) in (
-        no ∙ length_followed (paths_of env l false) (paths_of env r false),
-        yes ∙ length-append (paths_of env l true) (followed (paths_of env l false) (paths_of env r true)) ∙ ap (λ n. number l true + n) (length_followed (paths_of env l false) (paths_of env r true)),
-      )
+      let parts = paths_Or env s l r e in
+      joined_numbers _ _ (paths_of env l false) (paths_of env l true) (paths_of env r false) (paths_of env r true) (ap (λ f. f false) parts) (ap (λ f. f true) parts)
 
 -- one number of the whole, from the weighted numbers of the left side
 pub weighed_join : (a b s-yes s-no l-yes l-no r-yes r-no whole x y-yes y-no : ℕ) → Joins s-yes s-no l-yes l-no r-yes r-no

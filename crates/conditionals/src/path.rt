@@ -2,7 +2,7 @@
 ghost use Rattle.std.specs.Prelude.{◌≡◌, ◌≤◌, ◌++◌, ◌∷◌, [], length, map, nat_lt, true, false, IfOk, OnOk};
 ghost use Rattle.std.specs.List.{All};
 ghost use Rattle.conditionals.specs.Paths.{paths_of, fixed, followed, clean_paths, sets};
-ghost use Rattle.conditionals.specs.Steps.{lists_of, swap_lists, join_and, join_or, finish, needed, IsSmaller, left_of_and, left_of_or, asked};
+ghost use Rattle.conditionals.specs.Steps.{lists_of, swap_lists, join_and, finish, needed, IsSmaller, left_of_and, left_of_or, asked};
 
 use crate::clean::clean;
 use crate::count::{PathCounts, numbers_of};
@@ -67,7 +67,8 @@ pub fn joined_paths(
 ) -> Result<List<List<FlagSet>>, NoMemory>
     ensures { IfOk result (λ paths. paths ≡ clean_paths (followed first.now second.now)) }
 {
-    let paths = joined(alloc, List::new(alloc), first, second)?;
+    let mut paths = List::new(alloc);
+    push_joined(alloc, &mut paths, first, second)?;
     clean(alloc, paths)
 }
 
@@ -83,9 +84,11 @@ fn build(alloc: Global, cond: &Cond, env: &Env, need: WantedPaths) -> Result<Bot
                 let right = build(alloc, right, env, asked(need, &lists.yes))?;
                 lists = and(alloc, lists, right, need)?;
             }
+            // `a || b` is `!(!a && !b)`.
             PathStep::Or(right, need) => {
-                let right = build(alloc, right, env, asked(need, &lists.no))?;
-                lists = or(alloc, lists, right, need)?;
+                let right = swapped(build(alloc, right, env, asked(need, &lists.no))?);
+                let left = swapped(lists);
+                lists = swapped(and(alloc, left, right, negated(need))?);
             }
         }
     }
@@ -120,10 +123,7 @@ fn first<'a>(
             }
             Cond::Not(inner) => {
                 steps.push(PathStep::Not)?;
-                need = WantedPaths {
-                    yes: need.no,
-                    no: need.yes,
-                };
+                need = negated(need);
                 left = inner.get();
             }
             Cond::And(l, r) => {
@@ -137,6 +137,16 @@ fn first<'a>(
                 left = l.get();
             }
         }
+    }
+}
+
+// What is needed of the negated condition.
+fn negated(need: WantedPaths) -> WantedPaths
+    ensures { result ≡ record { yes = need.no; no = need.yes } }
+{
+    WantedPaths {
+        yes: need.no,
+        no: need.yes,
     }
 }
 
@@ -233,34 +243,14 @@ fn and(
 {
     let BothPaths { yes, no } = left;
     let no = if need.no {
-        joined(alloc, no, &yes, &right.no)?
+        let mut no = no;
+        push_joined(alloc, &mut no, &yes, &right.no)?;
+        no
     } else {
         List::new(alloc)
     };
     let yes = if need.yes {
         followed(alloc, yes, &right.yes)?
-    } else {
-        List::new(alloc)
-    };
-    Ok(BothPaths { yes, no })
-}
-
-fn or(
-    alloc: Global,
-    left: BothPaths,
-    right: BothPaths,
-    need: WantedPaths,
-) -> Result<BothPaths, NoMemory>
-    ensures { IfOk result (λ lists. lists ≡ join_or need left right) }
-{
-    let BothPaths { yes, no } = left;
-    let yes = if need.yes {
-        joined(alloc, yes, &no, &right.yes)?
-    } else {
-        List::new(alloc)
-    };
-    let no = if need.no {
-        followed(alloc, no, &right.no)?
     } else {
         List::new(alloc)
     };
@@ -302,20 +292,19 @@ fn push_followed(
     }
 }
 
-// The paths, and then each of the first followed by each of the second.
-fn joined(
+// Appends each path of the first followed by each of the second.
+fn push_joined(
     alloc: Global,
-    paths: List<List<FlagSet>>,
+    paths: &mut List<List<FlagSet>>,
     first: &List<List<FlagSet>>,
     second: &List<List<FlagSet>>,
-) -> Result<List<List<FlagSet>>, NoMemory>
-    ensures { IfOk result (λ joined. joined ≡ paths ++ followed first.now second.now) }
+) -> Result<(), NoMemory>
+    ensures { OnOk result (paths.new ≡ paths.old ++ followed first.now second.now) }
 {
-    let mut paths = paths;
     for path in first.as_slice() {
-        push_copies(alloc, &mut paths, path, second.as_slice())?;
+        push_copies(alloc, paths, path, second.as_slice())?;
     }
-    Ok(paths)
+    Ok(())
 }
 
 fn push_copies(

@@ -1,6 +1,6 @@
 use Rattle.std.proofs.Common.{arith, ap, ◌∙◌}
 use Rattle.conditionals.specs.declared.path.PathStep.TheVariants as step
-use Rattle.conditionals.specs.Steps.{lists_of, join_and, join_or, all_lists}
+use Rattle.conditionals.specs.Steps.{lists_of, join_and, join_or, swap_lists, all_lists}
 use Rattle.conditionals.proofs.Finishing.{taken_up, waits_below, asked_and, asked_or}
 use Rattle.conditionals.proofs.path.+build.Goals as goal
 
@@ -40,9 +40,10 @@ loop-step-preserved t c =
     let need = c.in-Or.need in
     let right = c.in-Or.right in
     let part = c.loop-step.lists in
-    let new = c.in_ok-lists-in-Or.lists in
-    let got = c.in_ok-right-in-Or.ensures ∙ ap (lists_of env right.now) c.asked-in-Or.ensures in
-    let is = c.in_ok-lists-in-Or.ensures ∙ ap (join_or need part) got ∙ asked_or need part (all_lists env right.now) in
+    let new = c.swapped-lists-in-Or.result in
+    let got = c.in_ok-build-in-Or.ensures ∙ ap (lists_of env right.now) c.asked-in-Or.ensures in
+    let joined = c.in_ok-and-in-Or.ensures ∙ (λ i. join_and (c.negated.ensures i) (c.swapped-left.ensures i) (c.swapped-right.ensures i)) in
+    let is = c.swapped-lists-in-Or.ensures ∙ ap swap_lists joined ∙ ap (join_or need part) got ∙ asked_or need part (all_lists env right.now) in
     record {
       lists = taken_up env c.loop-step.steps.items c.pop.new.self.items c.in-Some.step (step.Or right need) part new _ c.in-Some.ensures.items c.in-Or.is is c.loop-step.invariant.lists;
       smaller = (waits_below c.args.cond.now c.loop-step.steps.items c.pop.new.self.items c.in-Some.step (step.Or right need) c.in-Some.ensures.items c.in-Or.is c.loop-step.invariant.smaller).0;

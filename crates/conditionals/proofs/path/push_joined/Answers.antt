@@ -1,7 +1,7 @@
 use Rattle.std.proofs.Common.{◌+◌, drop}
 use Rattle.conditionals.proofs.Followed.{one_more}
 use Rattle.common_laws.specs.Lists.{drop_at}
-use Rattle.conditionals.proofs.path.joined.Goals as goal
+use Rattle.conditionals.proofs.path.push_joined.Goals as goal
 
 pub loop-path-preserved : goal.loop-path-preserved
 loop-path-preserved c =
