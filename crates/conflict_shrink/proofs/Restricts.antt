@@ -9,7 +9,7 @@ use Rattle.choice_problem.specs.declared.problem.Choice.{Choice}
 use Rattle.choice_problem.specs.declared.problem.Demand.{Demand}
 use Rattle.choice_problem.specs.Assignment.{Assignment, is_made, is_yes}
 use Rattle.choice_problem.specs.Problem.{Problem, IsDemand, IsOwned, Lawful}
-use Rattle.choice_problem.specs.General.{Request, general}
+use Rattle.choice_problem.specs.General.{General, Request, general}
 use Rattle.choice_problem.specs.Holds.{IsEdge, HoldsWithin, AdmitsNone}
 use Rattle.choice_problem.specs.ConflictSet.{has}
 use Rattle.choice_problem.specs.Answer.{Found, Failed, GaveUp, answer_of}
@@ -56,6 +56,19 @@ module _ (p : Problem) (set : List Var) (lawful : Lawful p) (are : are_known p s
         subst (IsDemand (general part)) plain.2
         (demand-general part plain.0 (demand-in-part plain.0 plain.1 (subst (λ x. x.is_yes A ≡ true) (sym plain.2) made) (subst (λ x. has set x.target ≡ true) (sym plain.2) target)))
 
+  -- an edge of one problem is one of another that has its demand
+  edge-of : (g h : General) (A : Assignment) (from to : Var) (e : IsEdge g (has set) A from to) → IsDemand h e.request → IsEdge h (has set) A from to
+  edge-of g h A from to e demand = record {
+    request = e.request;
+    owner = e.owner;
+    demand = demand;
+    owner_is = e.owner_is;
+    yes = e.yes;
+    inside = e.inside;
+    leaves = e.leaves;
+    enters = e.enters;
+  }
+
   -- an assignment that holds within the set holds in the restricted problem
   pub holds-in-part : (A : Assignment) → HoldsWithin (general p) (has set) A → HoldsWithin (general part) (has set) A
   holds-in-part A holds = record {
@@ -68,17 +81,7 @@ module _ (p : Problem) (set : List Var) (lawful : Lawful p) (are : are_known p s
     acyclic = λ v path.
         holds.acyclic v
         (path-map (IsEdge (general part) (has set) A) (IsEdge (general p) (has set) A)
-        (λ from to e. record {
-          request = e.request;
-          owner = e.owner;
-          demand = request-in-whole e.request e.demand;
-          owner_is = e.owner_is;
-          yes = e.yes;
-          inside = e.inside;
-          leaves = e.leaves;
-          enters = e.enters;
-        })
-        path);
+        (λ from to e. edge-of (general part) (general p) A from to e (request-in-whole e.request e.demand)) path);
     agree = λ r s of-r of-s must.
         holds.agree r s (record { demand = request-in-whole r of-r.demand; yes = of-r.yes; inside = of-r.inside })
         (record { demand = request-in-whole s of-s.demand; yes = of-s.yes; inside = of-s.inside }) must;
@@ -98,17 +101,7 @@ module _ (p : Problem) (set : List Var) (lawful : Lawful p) (are : are_known p s
         acyclic = λ v path.
             holds.acyclic v
             (path-map (IsEdge (general p) (has set) A) (IsEdge (general part) (has set) A)
-            (λ from to e. record {
-              request = e.request;
-              owner = e.owner;
-              demand = to-part e.request e.demand e.yes e.inside;
-              owner_is = e.owner_is;
-              yes = e.yes;
-              inside = e.inside;
-              leaves = e.leaves;
-              enters = e.enters;
-            })
-            path);
+            (λ from to e. edge-of (general p) (general part) A from to e (to-part e.request e.demand e.yes e.inside)) path);
         agree = λ r s of-r of-s must.
             holds.agree r s (record { demand = to-part r of-r.demand of-r.yes of-r.inside; yes = of-r.yes; inside = of-r.inside })
             (record { demand = to-part s of-s.demand of-s.yes of-s.inside; yes = of-s.yes; inside = of-s.inside }) must;
