@@ -19,21 +19,25 @@ use Rattle.constraint_set.specs.Relaxed.{relaxes}
 abbrev names : NameTable
 names = record { packages = codes "base" ∷ codes "main" ∷ codes "a" ∷ []; flags = codes "f" ∷ codes "g" ∷ [] }
 
-abbrev with_constraints : List Constraint → Project
-with_constraints constraints = record {
+-- a project that sets nothing
+abbrev pub plain_project : Project
+plain_project = record {
   entries = [];
   extra = [];
-  constraints = constraints;
+  constraints = [];
   preferences = [];
   newer = [];
   older = [];
-  tests = true;
+  tests = false;
   benchmarks = false;
   limit = Unlimited;
   prefer_oldest = false;
   boot_installs = false;
   warnings = [];
 }
+
+abbrev with_constraints : List Constraint → Project
+with_constraints constraints = record plain_project { constraints = constraints; tests = true }
 
 abbrev of_a : Qual → Var
 of_a qual = record { qual = qual; «package» = 2; part = Package }

@@ -15,7 +15,7 @@ ghost use Rattle.constraint_set.specs.Stands.{Represents};
 use crate::relaxing::Relaxing;
 use crate::rules::{PartOf, PartRule, Rules, is_unit};
 use keyed_lists::items_at;
-use plan_types::{Instance, NoMemory, Project, Range, Text};
+use plan_types::{Instance, NoMemory, Project, Range, Text, drop_fields};
 use qualified_goals::{Names, Part, Var};
 use std::alloc::Global;
 use version_range::Cuts;
@@ -32,17 +32,9 @@ pub struct Constraints {
     boot_installs: bool,
 }
 
-// Explicit, so that it is proved once: a derived one is expanded at each exit.
 impl Drop for Constraints {
     fn drop(self) {
-        let Constraints {
-            rules: _rules,
-            newer: _newer,
-            older: _older,
-            tests: _tests,
-            benchmarks: _benchmarks,
-            boot_installs: _boot_installs,
-        } = self;
+        drop_fields!(self; rules, newer, older, tests, benchmarks, boot_installs);
     }
 }
 

@@ -9,7 +9,7 @@ ghost use Rattle.constraint_set.specs.Relaxing.{AddsOwner, AddsRelax, RelaxesAs,
 
 use indexmap::IndexMap;
 use keyed_lists::{Lists, items_at, push_at};
-use plan_types::{Instance, NoMemory, Relax, RelaxOwner, Text, Version};
+use plan_types::{Instance, NoMemory, Relax, RelaxOwner, Text, Version, drop_fields};
 use std::alloc::Global;
 
 /// Whose ranges are relaxed.
@@ -23,14 +23,9 @@ pub(crate) struct Relaxing {
     pub dependencies: Lists<Text, RelaxOwner>,
 }
 
-// Explicit, so that it is proved once: a derived one is expanded at each exit.
 impl Drop for Relaxing {
     fn drop(self) {
-        let Relaxing {
-            everything: _everything,
-            owners: _owners,
-            dependencies: _dependencies,
-        } = self;
+        drop_fields!(self; everything, owners, dependencies);
     }
 }
 

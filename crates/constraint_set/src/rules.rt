@@ -8,7 +8,7 @@ ghost use Rattle.constraint_set.specs.Rules.{AddsRules, AddsSettings, RulesAre, 
 use crate::numbered_scope::NumberedScope;
 use indexmap::IndexMap;
 use keyed_lists::{Lists, push_at};
-use plan_types::{Constraint, FlagSet, Instance, NoMemory, Origin, Range, What};
+use plan_types::{Constraint, FlagSet, Instance, NoMemory, Origin, Range, What, drop_fields};
 use qualified_goals::{Names, Part, Qual};
 use std::alloc::Global;
 
@@ -48,13 +48,9 @@ pub(crate) struct Rules {
     pub parts: Lists<PartOf, PartRule>,
 }
 
-// Explicit, so that it is proved once: a derived one is expanded at each exit.
 impl Drop for Rules {
     fn drop(self) {
-        let Rules {
-            packages: _packages,
-            parts: _parts,
-        } = self;
+        drop_fields!(self; packages, parts);
     }
 }
 
