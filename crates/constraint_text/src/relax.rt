@@ -143,10 +143,7 @@ fn of_any(alloc: Global, name: &[u8]) -> Result<Relax, TextFault>
     ensures fault { IfErr result (Refuses
         (λ cause. (cause ≡ BadConstraint) × (is_package_name name.now ≡ false))) }
 {
-    if !is_package_name(name) {
-        return Err(TextFault::Bad(Cause::BadConstraint));
-    }
-    let name = package_text(alloc, name)?;
+    let name = checked_name(alloc, name)?;
     Ok(Relax {
         owner: RelaxOwner::Any,
         dep: Some(name),
@@ -159,14 +156,24 @@ fn all_of(alloc: Global, name: &[u8]) -> Result<Relax, TextFault>
     ensures fault { IfErr result (Refuses
         (λ cause. (cause ≡ BadConstraint) × (is_package_name name.now ≡ false))) }
 {
-    if !is_package_name(name) {
-        return Err(TextFault::Bad(Cause::BadConstraint));
-    }
-    let name = package_text(alloc, name)?;
+    let name = checked_name(alloc, name)?;
     Ok(Relax {
         owner: RelaxOwner::Package(name),
         dep: None,
     })
+}
+
+// The name of a package, as a text.
+fn checked_name(alloc: Global, name: &[u8]) -> Result<Text, TextFault>
+    ensures found { IfOk result (λ text. (is_package_name name.now ≡ true) × (text ≡ name.now)) }
+    ensures fault { IfErr result (Refuses
+        (λ cause. (cause ≡ BadConstraint) × (is_package_name name.now ≡ false))) }
+{
+    if !is_package_name(name) {
+        return Err(TextFault::Bad(Cause::BadConstraint));
+    }
+    let name = package_text(alloc, name)?;
+    Ok(name)
 }
 
 fn one_of(alloc: Global, front: &[u8], name: &[u8]) -> Result<Relax, TextFault>
@@ -257,8 +264,7 @@ fn cut_at_dash(text: &[u8]) -> Option<(&[u8], &[u8])>
         × (list_all is_no_dash p.1.now ≡ true)) }
     ensures none { IfNone result (list_all is_no_dash text.now ≡ true) }
 {
-    let dash = last_dash(text)?;
-    let (name, behind) = text.split_at(dash);
+    let (name, behind) = text.split_at(last_dash(text)?);
     let digits = byte_after(behind, b'-')?;
     Some((name, digits))
 }
