@@ -1,20 +1,15 @@
 -- Records found by the derived equality of variables.
-use Rattle.std.proofs.Common.{◌≡◌, ℕ, List, [], ◌∷◌, true, false, cond, Option, Some, None, ◌∙◌, sym, ap, refl, inl, inr, ◌⊎◌}
+use Rattle.std.proofs.Common.{◌≡◌, ℕ, List, [], ◌∷◌, true, false, cond, Option, Some, None, ◌∙◌, sym, ap, subst, refl, inl, inr, ◌⊎◌}
 use Rattle.std.specs.Option.{option_map}
 use Rattle.std.specs.List.{slice_get}
 use Rattle.std.specs.Map.{lookup, lookup_key}
-use Rattle.std.specs.Ordering.{is_eq}
 use Rattle.qualified_goals.specs.declared.variable.Var.{Var}
 use Rattle.qualified_goals.specs.Variable.{same_var}
 use Rattle.qualified_goals.specs.SameVariable.{same_var-is, same_var-refl}
 use Rattle.qualified_goals.specs.contracts.variable.VarPartialEq.TheImpl.{eq-value}
-use Rattle.qualified_goals.specs.contracts.variable.VarOrd.TheImpl.Laws.{matches_eq-law}
-use Rattle.choice_problem.proofs.PartialMaps.{derived}
+use Rattle.choice_problem.proofs.PartialMaps.{eq-same}
 use Rattle.count_search.specs.declared.records.Met.{Met}
 use Rattle.count_search.specs.Records.{record_in, IsPlaced}
-
-eq-same : (v w : Var) → eq-value.it v w ≡ same_var v w
-eq-same v w = matches_eq-law v w ∙ ap is_eq (derived v w)
 
 pub found : (records : List (Var × Met)) (v : Var) → lookup (eq-value.it v) records ≡ record_in records v
 found [] v = refl
@@ -27,6 +22,15 @@ pub changed : (old new : List (Var × Met)) (v w : Var) (o : Option Met) → loo
 changed old new v w o h =
     sym (found new w) ∙ h ∙ ap (λ b. cond b o (lookup (eq-value.it w) old)) (eq-same v w)
     ∙ ap (λ r. cond (same_var v w) o r) (found old w)
+
+-- a record is put at the place of another one
+pub put-mapped : (inside now after : List (Var × Met)) (v : Var) (place : ℕ) (old met : Met) (change : Met → Met) → inside ≡ now → IsPlaced now v place old → met ≡ change old
+    → ((was : Met) → slice_get inside place ≡ Some (v, was) → (w : Var) → record_in after w ≡ cond (same_var v w) (Some met) (record_in inside w))
+    → (w : Var) → record_in after w ≡ cond (same_var v w) (option_map change (record_in now v)) (record_in now w)
+put-mapped inside now after v place old met change view placed is put w =
+    let there = subst (λ l. IsPlaced l v place old) (sym view) placed in
+    put old there.there w ∙ ap (λ l. cond (same_var v w) (Some met) (record_in l w)) view
+    ∙ ap (λ o. cond (same_var v w) o (record_in now w)) (ap Some is ∙ ap (option_map change) (sym placed.first))
 
 pub equal : (v w : Var) → eq-value.it v w ≡ true → v ≡ w
 equal v w h = same_var-is v w (sym (eq-same v w) ∙ h)

@@ -15,7 +15,7 @@ use crate::ranks::{Ranks, rank_of};
 use crate::records::Records;
 use backjump::Guide;
 use choice_problem::{ConflictSet, Trail, Var};
-use plan_types::NoMemory;
+use plan_types::{NoMemory, drop_fields};
 use std::alloc::Global;
 use validation::State;
 
@@ -27,13 +27,9 @@ pub struct Counting {
     ranks: Ranks,
 }
 
-// Explicit, so that it is proved once: a derived one is expanded at each exit.
 impl Drop for Counting {
     fn drop(self) {
-        let Counting {
-            records: _records,
-            ranks: _ranks,
-        } = self;
+        drop_fields!(self; records, ranks);
     }
 }
 

@@ -7,7 +7,7 @@ ghost use Rattle.validation.specs.View.{Represents};
 ghost use Rattle.count_search.specs.Ranks.{rank_of, rank_cmp, same_rank, has_rank, lesser, passing, IsFirst};
 
 use choice_problem::Var;
-use plan_types::NoMemory;
+use plan_types::{NoMemory, drop_fields};
 use std::alloc::Global;
 use std::collections::BTreeSet;
 use std::marker::Model;
@@ -37,14 +37,9 @@ pub struct Ranks {
     tree: BTreeSet<Rank>,
 }
 
-// Explicit, so that it is proved once: a derived one is expanded at each exit.
 impl Drop for Ranks {
     fn drop(self) {
-        let Ranks {
-            last: _,
-            second: _,
-            tree: _tree,
-        } = self;
+        drop_fields!(self; last, second, tree);
     }
 }
 

@@ -9,7 +9,7 @@ ghost use Rattle.count_search.specs.Records.{record_in, marked, with_one_more, w
 
 use choice_problem::{Trail, Var};
 use indexmap::IndexMap;
-use plan_types::NoMemory;
+use plan_types::{NoMemory, drop_fields};
 use std::alloc::Global;
 use std::marker::Model;
 
@@ -30,13 +30,9 @@ pub struct Records {
     hints: Vec<usize>,
 }
 
-// Explicit, so that it is proved once: a derived one is expanded at each exit.
 impl Drop for Records {
     fn drop(self) {
-        let Records {
-            map: _map,
-            hints: _hints,
-        } = self;
+        drop_fields!(self; map, hints);
     }
 }
 

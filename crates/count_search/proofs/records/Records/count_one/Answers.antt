@@ -1,18 +1,11 @@
 -- the record at the variable's place has one more set
-use Rattle.std.proofs.Common.{Some, cond, sym, ap, subst, ◌∙◌}
-use Rattle.std.specs.Option.{option_map}
-use Rattle.qualified_goals.specs.Variable.{same_var}
+use Rattle.std.proofs.Common.{ℕ, ap}
 use Rattle.count_search.specs.declared.records.Met.{Met}
-use Rattle.count_search.specs.Records.{record_in, with_one_more, IsPlaced}
+use Rattle.count_search.specs.Records.{with_one_more}
+use Rattle.count_search.proofs.Found.{put-mapped}
 use Rattle.count_search.proofs.records.Records.count_one.Goals as goal
 
 pub returns-clause-is : goal.returns-clause-is
-returns-clause-is c w =
-    let v = c.args.v in
-    let old = c.in_ok-place.old in
-    let is = c.in_ok-place.ensures in
-    let there = subst (λ l. IsPlaced l v c.in_ok-place.place old) (sym c.self.view_is) is in
-    let met : Met = record { sets = c.saturating_add.result; chosen = old.chosen } in
-    let more = ap (λ n. Some (record { sets = n; chosen = old.chosen })) c.saturating_add.ensures ∙ ap (option_map with_one_more) (sym is.first) in
-    c.put_at.ensures v old there.there w ∙ ap (λ l. cond (same_var v w) (Some met) (record_in l w)) c.self.view_is
-    ∙ ap (λ o. cond (same_var v w) o (record_in c.args.self.now w)) more
+returns-clause-is c =
+    let met : ℕ → Met = λ sets. record { sets = sets; chosen = c.in_ok-place.old.chosen } in
+    put-mapped _ _ _ c.args.v _ c.in_ok-place.old (met c.saturating_add.result) with_one_more c.self.view_is c.in_ok-place.ensures (ap met c.saturating_add.ensures) (c.put_at.ensures c.args.v)
