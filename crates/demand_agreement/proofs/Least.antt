@@ -52,6 +52,27 @@ record IsLeastFrom (first : Clash) (cs : List Clash) : Type 0 where
   member : Contains (first ∷ cs) found
   least : (x : Clash) → Contains (first ∷ cs) x → IsAtMost found x
 
+-- one more pair: `best` is the one of the two first that comes before the other
+least-with : (first c best : Clash) (cs : List Clash) → cond (comes_before c first) c first ≡ best → Contains (first ∷ c ∷ cs) best → IsAtMost best first → IsAtMost best c
+    → IsLeastFrom best cs → IsLeastFrom first (c ∷ cs)
+least-with first c best cs is one to-first to-c rest =
+    let low = rest.least best (contains-head best cs) in
+    record {
+      found = rest.found;
+      is = ap (λ b. least_from (Some b) cs) is ∙ rest.is;
+      member = elim (contains-cases best cs rest.found rest.member) [
+        | inl e ↦ subst (λ x. Contains (first ∷ c ∷ cs) x) e one
+        | inr r ↦ contains-tail first (c ∷ cs) rest.found (contains-tail c cs rest.found r)
+      ];
+      least = λ x k. elim (contains-cases first (c ∷ cs) x k) [
+        | inl e ↦ subst (IsAtMost rest.found) e (at-most-on rest.found best first low to-first)
+        | inr r ↦ elim (contains-cases c cs x r) [
+          | inl e ↦ subst (IsAtMost rest.found) e (at-most-on rest.found best c low to-c)
+          | inr s ↦ rest.least x (contains-tail best cs x s)
+        ]
+      ];
+    }
+
 least-from : (first : Clash) (cs : List Clash) → IsLeastFrom first cs
 least-from first [] = record {
   found = first;
@@ -62,35 +83,8 @@ least-from first [] = record {
 least-from first (c ∷ cs) =
     elim (comes_before c first) as (λ b. comes_before c first ≡ b → IsLeastFrom first (c ∷ cs)) [
       | true ↦ λ h.
-          let rest = least-from c cs in
-          let low = rest.least c (contains-head c cs) in
-          record {
-            found = rest.found;
-            is = ap (λ b. least_from (Some (cond b c first)) cs) h ∙ rest.is;
-            member = contains-tail first (c ∷ cs) rest.found rest.member;
-            least = λ x k. elim (contains-cases first (c ∷ cs) x k) [
-              | inl e ↦ subst (IsAtMost rest.found) e (at-most-on rest.found c first low (before-yes c first h))
-              | inr r ↦ rest.least x r
-            ];
-          }
-      | false ↦ λ h.
-          let rest = least-from first cs in
-          let low = rest.least first (contains-head first cs) in
-          record {
-            found = rest.found;
-            is = ap (λ b. least_from (Some (cond b c first)) cs) h ∙ rest.is;
-            member = elim (contains-cases first cs rest.found rest.member) [
-              | inl e ↦ subst (λ x. Contains (first ∷ c ∷ cs) x) e (contains-head first (c ∷ cs))
-              | inr r ↦ contains-tail first (c ∷ cs) rest.found (contains-tail c cs rest.found r)
-            ];
-            least = λ x k. elim (contains-cases first (c ∷ cs) x k) [
-              | inl e ↦ subst (IsAtMost rest.found) e low
-              | inr r ↦ elim (contains-cases c cs x r) [
-                | inl e ↦ subst (IsAtMost rest.found) e (at-most-on rest.found first c low (before-no c first h))
-                | inr s ↦ rest.least x (contains-tail first cs x s)
-              ]
-            ];
-          }
+          least-with first c c cs (ap (λ b. cond b c first) h) (contains-tail first (c ∷ cs) c (contains-head c cs)) (before-yes c first h) (at-most-self c) (least-from c cs)
+      | false ↦ λ h. least-with first c first cs (ap (λ b. cond b c first) h) (contains-head first (c ∷ cs)) (at-most-self first) (before-no c first h) (least-from first cs)
     ] refl
 
 pub least-is : (cs : List Clash) (c : Clash) → least cs ≡ Some c → IsLeast cs c

@@ -1,12 +1,12 @@
 // The first two demands that disagree.
-ghost use Rattle.std.specs.Prelude.{◌≡◌, ◌<◌, ◌++◌, true, Some, IfOk, OnOk, List, length, filter, slice_get};
+ghost use Rattle.std.specs.Prelude.{◌≡◌, ◌<◌, ◌++◌, true, Some, IfOk, OnOk, List, length, filter, map, slice_get};
 ghost use Rattle.std.specs.List.{Contains};
 ghost use Rattle.choice_problem.specs.declared.problem.Demand.{Demand};
 ghost use Rattle.choice_problem.specs.Assignment.{is_yes};
 ghost use Rattle.choice_problem.specs.Conflict.{agreement_set};
 ghost use Rattle.choice_problem.specs.General.{owner_of};
 ghost use Rattle.choice_problem.specs.Trail.{value_in};
-ghost use Rattle.demand_agreement.specs.Clashes.{AreSuspects, apart_by, apart_from, clashes, clashes_at, clashing};
+ghost use Rattle.demand_agreement.specs.Clashes.{AreSuspects, apart_by, apart_from, clashes, clash_of, clashing};
 ghost use Rattle.demand_agreement.specs.Clashes.{is_first, set_named};
 ghost use Rattle.demand_agreement.specs.Places.{AllBelow, demand_at, places_on};
 
@@ -77,23 +77,17 @@ fn clashes<A: Asked>(
 {
     let mut found = Vec::new(alloc);
     for place in places {
-        push_clashes(alloc, &mut found, asked, trail, *place)?;
+        let others = clashing(alloc, asked, trail, asked.demand_at(*place))?;
+        push_pairs(&mut found, *place, others.as_slice())?;
     }
     Ok(found)
 }
 
-fn push_clashes<A: Asked>(
-    alloc: Global,
-    found: &mut Vec<Clash>,
-    asked: &A,
-    trail: &Values<'_>,
-    place: usize,
-) -> Result<(), NoMemory>
-    requires { place < length (A.demands asked.now) }
-    ensures { OnOk result (found.new.items ≡ found.old.items ++ clashes_at trail.now (A.demands asked.now) place) }
+// Adds the pairs of a place with each of the others.
+fn push_pairs(found: &mut Vec<Clash>, place: usize, others: &[usize]) -> Result<(), NoMemory>
+    ensures { OnOk result (found.new.items ≡ found.old.items ++ map (clash_of place) others.now) }
 {
-    let others = clashing(alloc, asked, trail, asked.demand_at(place))?;
-    for other in others.as_slice() {
+    for other in others {
         found.push(clash_of(place, *other))?;
     }
     Ok(())
