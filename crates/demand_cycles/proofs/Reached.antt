@@ -73,6 +73,12 @@ reached-more edges goals keys place v sources part e all =
       ];
     }
 
+-- the same of keys and sources that other names stand for
+pub reached-next : (edges : List Edge) (goals keys now : List Var) (place : ℕ) (v : Var) (slice sources : List Var) → IsPartReached edges goals keys place
+    → slice_get keys place ≡ Some v → now ≡ with_keys keys slice → slice ≡ sources → ((u : Var) → (Contains sources u) ↔ (HasEdge edges u v)) → IsPartReached edges goals now (place + 1)
+reached-next edges goals keys now place v slice sources part e added same all =
+    subst (λ l. IsPartReached edges goals l (place + 1)) (sym (added ∙ ap (with_keys keys) same)) (reached-more edges goals keys place v sources part e all)
+
 closed-way : (edges : List Edge) (keys : List Var) → ((w u : Var) → has keys w ≡ true → HasEdge edges u w → has keys u ≡ true)
     → (v w : Var) → Way edges v w → has keys w ≡ true → has keys v ≡ true
 closed-way edges keys closed v w (start e) h = ap (has keys) e ∙ h

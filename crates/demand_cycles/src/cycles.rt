@@ -1,5 +1,5 @@
 // Cycles among demands.
-ghost use Rattle.std.specs.Prelude.{◌≡◌, ◌+◌, ◌<◌, ◌↔◌, ◌++◌, [], ◌∷◌, List, true, Some, IfSome, IfOk, OnOk};
+ghost use Rattle.std.specs.Prelude.{◌≡◌, ◌+◌, ◌<◌, ◌↔◌, ◌++◌, [], ◌∷◌, List, true, Some, IfSome, IfOk, OnOk, if◌then◌else◌};
 ghost use Rattle.std.specs.Prelude.{length, take, drop, slice_get, option_to_list, flat_map};
 ghost use Rattle.std.specs.List.{Contains};
 ghost use Rattle.qualified_goals.specs.declared.variable.Var.{Var};
@@ -130,8 +130,8 @@ fn rings_of<G: Graph>(alloc: Global, graph: &G, vars: &[Var]) -> Result<Vec<Ring
 fn ring_of<G: Graph>(alloc: Global, graph: &G, v: Var) -> Result<Ring, NoMemory>
     ensures { IfOk result (IsRingOf (edges_of (G.demands graph.now)) v) }
 {
-    let ahead = descendants(alloc, graph, v)?;
-    let back = ancestors(alloc, graph, v)?;
+    let ahead = reached(alloc, graph, v, true)?;
+    let back = reached(alloc, graph, v, false)?;
     Ok(Ring { ahead, back })
 }
 
@@ -180,8 +180,9 @@ fn is_on_cycle<G: Graph>(
     Ok(lies)
 }
 
-// Whether edges lead from a variable to the end of a side. The side grows until this is known. Behind what is near,
-// the search along edges goes first: many variables may lead to an owner whose target leads to few.
+// Whether edges lead from a variable to the end of a side. The side grows until this is known. Behind what is near, it
+// searches from both ends in turn. The search along edges goes first: many variables may lead to an owner whose target
+// leads to few.
 fn is_led_to<G: Graph>(
     alloc: Global,
     graph: &G,
@@ -197,22 +198,6 @@ fn is_led_to<G: Graph>(
     if !is_seeking(back, from) {
         return Ok(back.holds(from));
     }
-    let is_led = search_both(alloc, graph, back, from)?;
-    Ok(is_led)
-}
-
-// The same, from both ends in turn.
-fn search_both<G: Graph>(
-    alloc: Global,
-    graph: &G,
-    back: &mut Side,
-    from: Var,
-) -> Result<bool, NoMemory>
-    requires { IsSide (edges_of (G.demands graph.now)) back.old }
-    ensures is_led { IfOk result (λ is_led.
-        is_led ≡ leads_to_any (edges_of (G.demands graph.now)) (back.old.end ∷ []) from) }
-    ensures back { OnOk result (IsSide (edges_of (G.demands graph.now)) back.new) }
-{
     let mut ahead = Side::new(alloc, from);
     while are_apart(&ahead, back) {
         let targets = graph.targets(alloc, ahead.next())?;
@@ -246,30 +231,29 @@ fn search_near<G: Graph>(
     Ok(())
 }
 
-// The goal and all variables that lead to it.
-fn ancestors<G: Graph>(alloc: Global, graph: &G, goal: Var) -> Result<VarSet, NoMemory>
-    ensures { IfOk result (AreAncestors (edges_of (G.demands graph.now)) (goal ∷ [])) }
+// The variable begun with, and all variables that lead to it, or, ahead, all to which it leads.
+fn reached<G: Graph>(alloc: Global, graph: &G, begun: Var, ahead: bool) -> Result<VarSet, NoMemory>
+    ensures { IfOk result (AreAncestors
+        (if ahead then reversed (edges_of (G.demands graph.now)) else edges_of (G.demands graph.now)) (begun ∷ [])) }
 {
-    let mut found = VarSet::of(alloc, goal);
+    let mut found = VarSet::of(alloc, begun);
     let mut place = 0;
     while place < found.len() {
-        let sources = graph.sources(alloc, found.at(place))?;
-        found.add_all(sources.as_slice())?;
+        let next = beside(alloc, graph, found.at(place), ahead)?;
+        found.add_all(next.as_slice())?;
         place += 1;
     }
     Ok(found)
 }
 
-// The variable begun with, and all variables to which it leads.
-fn descendants<G: Graph>(alloc: Global, graph: &G, begun: Var) -> Result<VarSet, NoMemory>
-    ensures { IfOk result (AreAncestors (reversed (edges_of (G.demands graph.now))) (begun ∷ [])) }
+// The variables from which an edge leads to this one, or, ahead, to which one leads from it.
+fn beside<G: Graph>(alloc: Global, graph: &G, v: Var, ahead: bool) -> Result<List<Var>, NoMemory>
+    ensures { IfOk result (λ found. (w : Var) → (Contains found w) ↔ (HasEdge
+        (if ahead then reversed (edges_of (G.demands graph.now)) else edges_of (G.demands graph.now)) w v)) }
 {
-    let mut found = VarSet::of(alloc, begun);
-    let mut place = 0;
-    while place < found.len() {
-        let targets = graph.targets(alloc, found.at(place))?;
-        found.add_all(targets.as_slice())?;
-        place += 1;
+    if ahead {
+        graph.targets(alloc, v)
+    } else {
+        graph.sources(alloc, v)
     }
-    Ok(found)
 }

@@ -4,6 +4,7 @@ ghost use Rattle.demand_cycles.specs.Ring.{any_closes, closes};
 
 use crate::var_set::VarSet;
 use choice_problem::Var;
+use plan_types::drop_fields;
 
 /// What a variable leads to, and what leads to it. An edge lies on a cycle through the variable iff the variable leads
 /// to the start of the edge, and the end of the edge to the variable.
@@ -12,13 +13,9 @@ pub(crate) struct Ring {
     pub(crate) back: VarSet,
 }
 
-// Explicit, so that it is proved once: a derived one is expanded at each exit.
 impl Drop for Ring {
     fn drop(self) {
-        let Ring {
-            ahead: _ahead,
-            back: _back,
-        } = self;
+        drop_fields!(self; ahead, back);
     }
 }
 

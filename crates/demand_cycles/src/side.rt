@@ -7,7 +7,7 @@ ghost use Rattle.demand_cycles.specs.VarSet.{with_keys};
 
 use crate::var_set::VarSet;
 use choice_problem::{Var, is_same};
-use plan_types::NoMemory;
+use plan_types::{NoMemory, drop_fields};
 use std::alloc::Global;
 
 // The most variables that a search has found while it is near its end.
@@ -20,14 +20,9 @@ pub(crate) struct Side {
     pub(crate) place: usize,
 }
 
-// Explicit, so that it is proved once: a derived one is expanded at each exit.
 impl Drop for Side {
     fn drop(self) {
-        let Side {
-            end: _end,
-            found: _found,
-            place: _place,
-        } = self;
+        drop_fields!(self; end, found, place);
     }
 }
 

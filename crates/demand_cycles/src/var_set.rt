@@ -5,7 +5,7 @@ ghost use Rattle.demand_cycles.specs.VarSet.{IsIndexOf, with_key, with_keys};
 
 use choice_problem::Var;
 use indexmap::IndexSet;
-use plan_types::NoMemory;
+use plan_types::{NoMemory, drop_fields};
 use std::alloc::Global;
 use std::marker::Model;
 
@@ -20,14 +20,9 @@ pub(crate) struct VarSet {
     index: Option<Box<IndexSet<Var>>>,
 }
 
-// Explicit, so that it is proved once: a derived one is expanded at each exit.
 impl Drop for VarSet {
     fn drop(self) {
-        let VarSet {
-            first: _first,
-            others: _others,
-            index: _index,
-        } = self;
+        drop_fields!(self; first, others, index);
     }
 }
 

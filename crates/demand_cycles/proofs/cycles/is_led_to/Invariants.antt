@@ -2,7 +2,7 @@
 use Rattle.std.proofs.Common.{◌≡◌, ◌+◌, ◌-◌, length}
 use Rattle.choice_problem.specs.Conflict.{edges_of}
 use Rattle.demand_cycles.specs.Side.{IsSide, reversed}
-use Rattle.demand_cycles.proofs.cycles.search_both.Given as goal
+use Rattle.demand_cycles.proofs.cycles.is_led_to.Given as goal
 
 abbrev pub invariant-loop-alloc : goal.invariant-loop-alloc
 invariant-loop-alloc g l = let edges = edges_of (g.G.Graph.demands l.graph) in record {
