@@ -124,18 +124,21 @@ repeats class before section =
 abbrev pub repeated : Class → List Section → List At
 repeated class = by_those_before (repeats class) []
 
+-- the fault of a well-placed import: one of its stanzas fails this test
+abbrev pub unknown_by : (List ℕ → Bool) → Said → List Cause
+unknown_by known (said.Import names fits) = if fits then unless (list_all known names) causes.UnknownStanza else []
+unknown_by known (said.Depends deps) = []
+unknown_by known (said.Buildable value) = []
+unknown_by known (said.Visibility value) = []
+unknown_by known (said.Default value) = []
+unknown_by known (said.Manual value) = []
+unknown_by known said.BuildTools = []
+unknown_by known (said.Branch word condition fits) = []
+unknown_by known said.Misplaced = []
+
 -- the fault of a well-placed import: one of its stanzas isn't declared earlier
 abbrev pub unknown_said : List Section → Said → List Cause
-unknown_said before (said.Import names fits) =
-    if fits then unless (list_all (declares (is_class Common) before) names) causes.UnknownStanza else []
-unknown_said before (said.Depends deps) = []
-unknown_said before (said.Buildable value) = []
-unknown_said before (said.Visibility value) = []
-unknown_said before (said.Default value) = []
-unknown_said before (said.Manual value) = []
-unknown_said before said.BuildTools = []
-unknown_said before (said.Branch word condition fits) = []
-unknown_said before said.Misplaced = []
+unknown_said before = unknown_by (declares (is_class Common) before)
 
 -- unknown stanzas in the imports of a section
 abbrev pub unknown_in : List Section → Section → List At

@@ -1,13 +1,11 @@
 -- The names of earlier sections of a class, as they are kept in file order.
 use Rattle.std.specs.Prelude.{ℕ, not, if◌then◌else◌, List, []}
-use Rattle.std.specs.List.{list_all}
 use Rattle.plan_types.specs.declared.refusal.Cause.{Cause}
 use Rattle.plan_types.specs.declared.refusal.Cause.TheVariants as causes
 use Rattle.section_syntax.specs.declared.part.Said.{Said}
-use Rattle.section_syntax.specs.declared.part.Said.TheVariants as said
 use Rattle.section_syntax.specs.declared.part.Section.{Section}
 use Rattle.stanza_imports.specs.Names.{has, with_name}
-use Rattle.description.specs.Faults.{at, is_class, unless}
+use Rattle.description.specs.Faults.{at, is_class, unknown_by, unless}
 use Rattle.description.specs.declared.fault_order.At.{At}
 use Rattle.description.specs.declared.faults.Class.{Class}
 
@@ -21,12 +19,4 @@ again class names section = if is_class class section.kind then at section.line 
 
 -- the fault of a well-placed import: one of its stanzas isn't among these
 abbrev pub unknown_of : List (List ℕ) → Said → List Cause
-unknown_of known (said.Import names fits) = if fits then unless (list_all (has known) names) causes.UnknownStanza else []
-unknown_of known (said.Depends deps) = []
-unknown_of known (said.Buildable value) = []
-unknown_of known (said.Visibility value) = []
-unknown_of known (said.Default value) = []
-unknown_of known (said.Manual value) = []
-unknown_of known said.BuildTools = []
-unknown_of known (said.Branch word condition fits) = []
-unknown_of known said.Misplaced = []
+unknown_of known = unknown_by (has known)

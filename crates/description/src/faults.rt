@@ -80,7 +80,8 @@ fn in_sections(sections: &[Section], declared: &Declared) -> Option<At>
 }
 
 fn in_section(section: &Section, declared: &Declared) -> Option<At>
-    ensures { (file : File) → RepresentsNames declared.now file → result ≡ first (in_section file section.now) }
+    ensures { (file : File) → RepresentsNames declared.now file
+        → result ≡ first (in_section file section.now) }
 {
     let named = of_name(section, declared);
     let inside = in_parts(section.parts.as_slice(), declared);

@@ -10,7 +10,7 @@ ghost use Rattle.section_syntax.specs.declared.part.File.{File};
 ghost use Rattle.section_syntax.specs.Chained.{AreSectionParts};
 ghost use Rattle.section_syntax.specs.declared.part.Section.{Section};
 ghost use Rattle.package_declarations.specs.Declarations.{own_name};
-ghost use Rattle.package_declarations.specs.Components.{components, components as components_of};
+ghost use Rattle.package_declarations.specs.Components.{components as components_of};
 ghost use Rattle.description.specs.Description.{IsFaultlessOutcome, IsFileOutcome, Describes, IsDescriptionOf, cabal_version, line_of, version_of, version_said, spec_of, warning, warnings};
 ghost use Rattle.description.specs.Faults.{bad_visibility_at, faults};
 ghost use Rattle.stanza_imports.specs.Imports.{with_imports_replaced};
@@ -204,26 +204,13 @@ fn faultless(
     let Some(version) = version_of(file.heads.as_slice()) else {
         return Err(missing());
     };
-    let components = components_in(alloc, declared, bodies)?;
+    room(alloc, total_weight(bodies))?;
+    let components = components(alloc, declared, bodies)?;
     let described = whole(alloc, file, digest, name, version, components)?;
     match first_circular(alloc, described.components.as_slice())? {
         Some(number) => Err(circular(described.components.as_slice(), number)),
         None => Ok(described),
     }
-}
-
-fn components_in(
-    alloc: Global,
-    declared: &Declared,
-    bodies: &Bodies,
-) -> Result<List<Component>, NoMemory>
-    ensures { IfOk result (λ found. (file : File) → RepresentsNames declared.now file
-        → AreBodiesOf file.sections bodies.now
-        → All (λ section. AreSectionParts section.parts) file.sections → found ≡ components file) }
-{
-    room(alloc, total_weight(bodies))?;
-    let found = components(alloc, declared, bodies)?;
-    Ok(found)
 }
 
 /// Reserves about the memory that so many parts and dependencies take, and frees it. Imports can describe more than
