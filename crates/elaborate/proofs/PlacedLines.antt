@@ -52,17 +52,19 @@ module _ (selection : Selection) (reached : Reached) (are : AreReached selection
   are_ranked = planned.ranked selection reached are lines have all moved_nodes sorted_nodes
 
   -- the graph that is made is that of the definition
-  pub made_graph : (ranks : List ℕ) (graph : List (List ℕ)) → ranks ≡ ranks_by (replicate (length keys) 0) 0 items
+  made_graph : (ranks : List ℕ) (graph : List (List ℕ)) → ranks ≡ ranks_by (replicate (length keys) 0) 0 items
       → graph ≡ map (ranked_row reached.places ranks) items → graph ≡ graph_of selection all
   made_graph = planned.made_graph selection reached are lines have all moved_nodes sorted_nodes items refl right_places
 
-  pub is_graph : (graph : List (List ℕ)) → graph ≡ graph_of selection all → IsGraph graph
-  is_graph graph made = subst IsGraph (sym made) (planned.is_graph selection reached are lines have all moved_nodes sorted_nodes)
+  module _ (ranks : List ℕ) (graph : List (List ℕ)) (ranked : ranks ≡ ranks_by (replicate (length keys) 0) 0 items)
+      (rows : graph ≡ map (ranked_row reached.places ranks) items) where
+    pub is_graph : IsGraph graph
+    is_graph = subst IsGraph (sym (made_graph ranks graph ranked rows)) (planned.is_graph selection reached are lines have all moved_nodes sorted_nodes)
 
-  pub in_order : (graph : List (List ℕ)) (places : List ℕ) → graph ≡ graph_of selection all → IsBuildOrder graph places → IsBuildOrder (graph_of selection all) places
-  in_order graph places made build = subst (λ g. IsBuildOrder g places) made build
+    pub in_order : (places : List ℕ) → IsBuildOrder graph places → IsBuildOrder (graph_of selection all) places
+    in_order places build = subst (λ g. IsBuildOrder g places) (made_graph ranks graph ranked rows) build
 
-  pub places_within : (graph : List (List ℕ)) (places : List ℕ) → graph ≡ graph_of selection all → IsBuildOrder graph places → All (λ place. place < length items) places
-  places_within graph places made build =
-      subst (λ n. All (λ place. place < n) places) (length-map items lined_of)
-      (planned.places_within selection reached are lines have all moved_nodes sorted_nodes places (in_order graph places made build))
+    pub places_within : (places : List ℕ) → IsBuildOrder graph places → All (λ place. place < length items) places
+    places_within places build =
+        subst (λ n. All (λ place. place < n) places) (length-map items lined_of)
+        (planned.places_within selection reached are lines have all moved_nodes sorted_nodes places (in_order places build))
