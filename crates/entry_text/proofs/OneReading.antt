@@ -104,3 +104,15 @@ pub only_fault : {A : Type 0} (Reads : A → Type 0) (Fails : Cause → Type 0) 
 only_fault Reads Fails one apart (Ok found) h k c r = apart found c h r
 only_fault Reads Fails one apart (Err NoMemory) h k c r = tt
 only_fault Reads Fails one apart (Err (Bad d)) h k c r = one d c k r
+
+pub only_entries : {A : Type 0} {Part : List ℕ → A → Type 0} {Fault : List ℕ → Cause → Type 0} → Settled Part Fault → (text : List ℕ)
+    → (result : Result (List A) TextFault) → IfOk result (HasEntries Part text) → IfErr result (Refuses (HasFirstFault Part Fault text))
+    → (xs : List A) → HasEntries Part text xs → MatchResult result (λ found. found ≡ xs) (Refuses (λ _. ⊥))
+only_entries {Part = Part} {Fault = Fault} row text =
+    only_reading (HasEntries Part text) (HasFirstFault Part Fault text) (one_reading Part row.one text) (reading_or_fault Part Fault row.not_both text)
+
+pub only_first : {A : Type 0} {Part : List ℕ → A → Type 0} {Fault : List ℕ → Cause → Type 0} → Settled Part Fault → (text : List ℕ)
+    → (result : Result (List A) TextFault) → IfOk result (HasEntries Part text) → IfErr result (Refuses (HasFirstFault Part Fault text))
+    → (c : Cause) → HasFirstFault Part Fault text c → MatchResult result (λ _. ⊥) (Refuses (λ why. why ≡ c))
+only_first {Part = Part} {Fault = Fault} row text =
+    only_fault (HasEntries Part text) (HasFirstFault Part Fault text) (one_first Part Fault row text) (reading_or_fault Part Fault row.not_both text)
