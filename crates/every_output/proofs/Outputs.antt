@@ -69,14 +69,7 @@ HasTexts IsText = (index : Index) (names : NameTable) (trail : List Choice) (nod
 
 -- the same options, with lines or JSON
 abbrev with_json : Bool → Options → Options
-with_json json options = record {
-  places = options.places;
-  env = options.env;
-  limit = options.limit;
-  json = json;
-  count_conflicts = options.count_conflicts;
-  minimize = options.minimize;
-}
+with_json json options = record options { json = json }
 
 by_json : (json : Bool) (options : Options) → HasTexts (IsPlanText (form_of (with_json json options)))
 by_json true options index names trail nodes counts = (plan_json index names trail nodes counts, refl)
