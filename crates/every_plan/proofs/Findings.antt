@@ -49,21 +49,12 @@ problem_as : (index : Index) (settings : Settings) (names : NameTable) (problem 
 problem_as index settings names problem h = record { numbers = h.numbers; orders = h.orders; orders_are = h.orders_are; problem_is = h.problem_is }
 
 trail_as : (index : Index) (settings : Settings) (names : NameTable) (trail : _) → IsFirstTrail index (unlimited settings) names trail → IsFirstTrail index settings names trail
-trail_as index settings names trail h = record {
-  problem = h.problem;
-  problem_is = problem_as index settings names h.problem h.problem_is;
-  new = h.new;
-  first = h.first;
-  trail_is = h.trail_is;
-}
+trail_as index settings names trail h =
+    record { problem = h.problem; problem_is = problem_as index settings names h.problem h.problem_is; new = h.new; first = h.first; trail_is = h.trail_is }
 
 blame_as : (index : Index) (settings : Settings) (names : NameTable) (set : _) → AreToBlame index (unlimited settings) names set → AreToBlame index settings names set
-blame_as index settings names set h = record {
-  problem = h.problem;
-  problem_is = problem_as index settings names h.problem h.problem_is;
-  none = h.none;
-  admits_none = h.admits_none;
-}
+blame_as index settings names set h =
+    record { problem = h.problem; problem_is = problem_as index settings names h.problem h.problem_is; none = h.none; admits_none = h.admits_none }
 
 ends : (index : Index) (settings : Settings) (names : NameTable) (found : Outcome) → MeansOutcome Least index (unlimited settings) names found → EndsFirstOrNone index settings names found
 ends index settings names (outcome.Found trail counts) h = trail_as index settings names trail h
