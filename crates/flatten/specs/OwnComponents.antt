@@ -14,11 +14,7 @@ use Rattle.plan_types.specs.Packages.{is_library}
 
 -- whether a component is an executable
 abbrev pub is_executable : CompKind → Bool
-is_executable Library = false
-is_executable Executable = true
-is_executable Test = false
-is_executable Bench = false
-is_executable Foreign = false
+is_executable kind = elim kind [ Library ↦ false | Executable ↦ true | Test ↦ false | Bench ↦ false | Foreign ↦ false ]
 
 -- the component name of a library
 abbrev pub name_of : LibName → List ℕ

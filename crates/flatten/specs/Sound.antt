@@ -39,15 +39,11 @@ component_deps d = flat_map (λ component. map (λ guarded. guarded.dep) compone
 
 -- whether the dependency is of a component
 abbrev pub is_of_components : DepKind → Bool
-is_of_components Library = true
-is_of_components Tool = true
-is_of_components Setup = false
+is_of_components kind = elim kind [ Library ↦ true | Tool ↦ true | Setup ↦ false ]
 
 -- whether the dependency is of the setup script
 abbrev pub is_of_setup : DepKind → Bool
-is_of_setup Library = false
-is_of_setup Tool = false
-is_of_setup Setup = true
+is_of_setup kind = elim kind [ Library ↦ false | Tool ↦ false | Setup ↦ true ]
 
 -- all conditions of a description
 abbrev pub conditions : Description → List Cond

@@ -40,24 +40,6 @@ pub fn demands_of(alloc: Global, d: &Description, env: &Env) -> Result<List<Flat
     Ok(flat)
 }
 
-fn push_component(
-    alloc: Global,
-    flat: &mut List<FlatDep>,
-    component: &Component,
-    env: &Env,
-) -> Result<(), Fault>
-    ensures none_beyond { OnOk result (first_among env.now (outward_in component.now) ≡ None) }
-    ensures demands { OnOk result (flat.new
-        ≡ flat.old ++ flat_map (demands_at env.now) (outward_in component.now)) }
-    ensures refused { IfErr result (RefusesAt (λ line cause. (cause ≡ TooManyPaths)
-        × (first_among env.now (outward_in component.now) ≡ Some line))) }
-{
-    if asks_others(component) {
-        push_outward(alloc, flat, component, env)?;
-    }
-    Ok(())
-}
-
 fn asks_others(component: &Component) -> bool
     ensures { result ≡ list_any (λ guarded. not guarded.dep.internal) component.now.build.deps }
 {
@@ -77,7 +59,7 @@ fn has_others(group: &DepGroup) -> bool
 }
 
 // The demands of a component. The outlooks of all its conditions are computed once.
-fn push_outward(
+fn push_component(
     alloc: Global,
     flat: &mut List<FlatDep>,
     component: &Component,
@@ -89,6 +71,9 @@ fn push_outward(
     ensures refused { IfErr result (RefusesAt (λ line cause. (cause ≡ TooManyPaths)
         × (first_among env.now (outward_in component.now) ≡ Some line))) }
 {
+    if !asks_others(component) {
+        return Ok(());
+    }
     let (conds, place, groups) = component.build.tabled();
     let outlooks = outlooks(alloc, conds, env)?;
     let ways = ways_of(alloc, component.build.buildable(), &outlooks, place, env)?;

@@ -60,15 +60,13 @@ pub returns-in_err-push_demands-clause-refused : goal.returns-in_err-push_demand
 returns-in_err-push_demands-clause-refused c =
     let env = c.args.env.now in
     let component = c.args.built.now.component.now in
-    let when = c.args.group.now.when in
-    let here : Dep → GuardedDep = λ dep. record { when = when; dep = dep } in
-    let items = c.as_slice-dep-items.result.now in
-    let dep = c.dep-item.result in
-    let more = drop (c.loop-dep.dep-index + 1) items in
-    let met = c.in_ok-met.ensures ∙ ap (ways_of env) c.get.ensures in
-    let split = ap (λ l. outward_among component (map here l)) (drop_at items c.loop-dep.dep-index dep c.loop-dep-test.true c.dep-item.is)
-    ∙ taken component when dep more (ap (λ d. d.internal) (sym c.get-in-loop-dep.ensures) ∙ c.if-not-get.true) in
     let whole = outward_among component (of_group c.args.group.now) in
+    let here : Dep → GuardedDep = λ dep. record { when = c.args.group.now.when; dep = dep } in
+    let dep = c.dep-item.result in
+    let more = drop (c.loop-dep.dep-index + 1) c.as_slice-dep-items.result.now in
+    let met = c.in_ok-met.ensures ∙ ap (ways_of env) c.get.ensures in
+    let split = ap (λ l. outward_among component (map here l)) (drop_at c.as_slice-dep-items.result.now c.loop-dep.dep-index dep c.loop-dep-test.true c.dep-item.is)
+    ∙ taken component c.args.group.now.when dep more (ap (λ d. d.internal) (sym c.get-in-loop-dep.ensures) ∙ c.if-not-get.true) in
     let told : RefusesAt (λ line cause. (cause ≡ TooManyPaths) × (first_among env whole ≡ Some line)) c.in_err-push_demands.field-0.0 =
     refused-as c.in_err-push_demands.field-0.0 _ _ (λ line cause h. (
       h.0,

@@ -1,7 +1,7 @@
 use Rattle.std.proofs.Common.{◌≡◌, ◌++◌, drop, flat_map}
 use Rattle.flatten.specs.Demands.{demands_at, first_among, outward_among, outward_in}
 use Rattle.plan_types.specs.Guarded.{in_groups}
-use Rattle.flatten.proofs.demands.push_outward.Given as goal
+use Rattle.flatten.proofs.demands.push_component.Given as goal
 
 abbrev pub invariant-loop-group : goal.invariant-loop-group
 invariant-loop-group l =
