@@ -1,16 +1,15 @@
 // A trail of choices as constraints.
 ghost use Rattle.std.specs.Prelude.{◌≡◌, ◌++◌, ◌∷◌, [], ℕ, List, IfOk, OnOk};
-ghost use Rattle.std.specs.List.{AllByRecursion};
 ghost use Rattle.plan_types.specs.declared.condition.Env.{Env};
 ghost use Rattle.plan_types.specs.declared.project.Project.{Project as TheProject};
 ghost use Rattle.choice_problem.specs.Trail.{AreNew, value_in};
-ghost use Rattle.choice_problem.specs.Valid.{IsWholeValid};
 ghost use Rattle.flatten.specs.Sound.{IsSound};
 ghost use Rattle.qualified_goals.specs.Names.{AreNumbers};
-ghost use Rattle.cabal_problem.specs.WholeDemands.{whole_problem};
-ghost use Rattle.freeze_text.specs.Reads.{IsPlainConstraint, project_with};
+ghost use Rattle.cabal_problem.specs.WholeDemands.{IsWholeAssignment};
+ghost use Rattle.freeze_text.specs.Reads.{project_with};
 ghost use Rattle.frozen_choices.specs.Barred.{BarsNone};
 ghost use Rattle.frozen_choices.specs.Frozen.{frozen, is_setup_of, setups_in};
+ghost use Rattle.frozen_choices.specs.Plain.{ArePlain};
 ghost use Rattle.freeze_file.specs.Steps.{AddsOwner, AreThose, is_setup_in};
 
 use crate::numbers::{add, has};
@@ -34,12 +33,12 @@ pub fn freeze(
     ensures project { IfOk result (λ project. project ≡ project_with (frozen index.now.packages names.now trail.now)) }
     ensures bars_none { IfOk result (λ made. (env : Env) (project : TheProject) (orders : List (List ℕ))
         → IsSound env index.now → AreNumbers index.now.packages names.now
-        → IsWholeValid (whole_problem env index.now.packages project names.now orders) (value_in trail.now)
+        → IsWholeAssignment env index.now.packages project names.now orders (value_in trail.now)
         → BarsNone index.now.packages names.now made.constraints trail.now) }
     ensures plain { IfOk result (λ made. (env : Env) (project : TheProject) (orders : List (List ℕ))
         → IsSound env index.now
-        → IsWholeValid (whole_problem env index.now.packages project names.now orders) (value_in trail.now)
-        → AllByRecursion IsPlainConstraint made.constraints) }
+        → IsWholeAssignment env index.now.packages project names.now orders (value_in trail.now)
+        → ArePlain made.constraints) }
 {
     frozen_bars_none();
     frozen_is_plain();
