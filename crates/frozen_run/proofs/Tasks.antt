@@ -1,5 +1,5 @@
 -- The task of a folder with a printed freeze file.
-use Rattle.std.proofs.Common.{◌≡◌, ◌||◌, List, Result, Ok, Err, refl, sym, ap, ◌∙◌, subst}
+use Rattle.std.proofs.Common.{◌≡◌, ◌||◌, List, Result, Ok, refl, sym, ap, ◌∙◌, subst}
 use Rattle.std.specs.Prelude.{codes, if◌then◌else◌}
 use Rattle.std.specs.List.{AllByRecursion, list_any}
 use Rattle.plan_types.specs.declared.condition.Env.{Env}
@@ -17,8 +17,7 @@ use Rattle.outside_folder.specs.declared.calls.Content.{Content}
 use Rattle.outside_folder.specs.declared.calls.Content.TheVariants.{TooLarge, Bytes as Holds}
 use Rattle.project_file.specs.Read.{IsProject}
 use Rattle.project_paths.specs.Local.{local_files, sought}
-use Rattle.project_config.specs.Project.{IsFolderProject, first_too_large, freeze_bytes, is_implicit, is_missing, project_files, texts_among}
-use Rattle.project_config.specs.declared.project.FolderProject.{FolderProject}
+use Rattle.project_config.specs.Project.{first_too_large, freeze_bytes, is_implicit, is_missing, project_files, texts_among}
 use Rattle.index_assembly.specs.Folder.{IsFolderIndex}
 use Rattle.qualified_goals.specs.Names.{NameTable}
 use Rattle.choice_problem.specs.declared.problem.Choice.{Choice}
@@ -30,7 +29,7 @@ use Rattle.frozen_choices.specs.Frozen.{frozen}
 use Rattle.frozen_choices.specs.Plain.{AreInDomains}
 use Rattle.frozen_choices.proofs.DistinctChoices.{valid-in-domains}
 use Rattle.command_line.specs.declared.reading.Options.{Options}
-use Rattle.plan_task.specs.Task.{IsTask, IsTaskOf, task_of, task_or_refusal}
+use Rattle.plan_task.specs.Task.{IsTask, task_of}
 use Rattle.plan_task.specs.declared.task.Task.{Task}
 use Rattle.plan_command.specs.Form.{frozen_form}
 use Rattle.plan_command.specs.Meaning.{PlansFirst}
@@ -40,13 +39,6 @@ use Rattle.frozen_run.proofs.Made.{IsMadeOf, made-of, made-task}
 use Rattle.frozen_run.proofs.Texts.{AddsAlone, AddsBehind, IsTold, any-file, large_of, texts_of}
 
 -- what the laws of folders and of constraints say
-
-abbrev pub OneProject : Type 0
-OneProject = (env : Env) (files : Files) (a b : Result FolderProject Refusal) → IsFolderProject env files a → IsFolderProject env files b → a ≡ b
-
-abbrev pub OneIndex : Type 0
-OneIndex = (env : Env) (places : Places) (extra : List Named) (paths : List Bytes) (files : Files) (a b : Result Index Refusal)
-    → IsFolderIndex env places extra paths files a → IsFolderIndex env places extra paths files b → a ≡ b
 
 abbrev pub FrozenIsPlain : Type 0
 FrozenIsPlain = (env : Env) (index : Index) (names : NameTable) (trail : List Choice) → IsSound env index
@@ -58,19 +50,6 @@ LocalsStay = (files now : Files) (text : Bytes) (entries : List ProjectEntry) �
 abbrev pub IndexStays : Type 0
 IndexStays = (env : Env) (places : Places) (extra : List Named) (files now : Files) (text : Bytes) (entries : List ProjectEntry) (locals : List Bytes) (index : Result Index Refusal)
     → IsRefrozen files text now → local_files files entries ≡ Ok locals → IsFolderIndex env places extra locals files index → IsFolderIndex env places extra locals now index
-
--- ---- a folder has one task
-
-module _ (project : OneProject) (one : OneIndex) (options : Options) (files : Files) where
-  one-task-of : (found : Result FolderProject Refusal) (a b : Result Task Refusal) → IsTaskOf options files found a → IsTaskOf options files found b → a ≡ b
-  one-task-of (Ok found) a b h k =
-      h.2 ∙ ap (task_or_refusal options found.project found.freeze) (one options.env options.places found.project.extra found.locals files h.0 k.0 h.1 k.1) ∙ sym k.2
-  one-task-of (Err refusal) a b h k = h ∙ sym k
-
-  pub one-task : (a b : Result Task Refusal) → IsTask options files a → IsTask options files b → a ≡ b
-  one-task a b h k =
-      let same = project options.env files h.0 k.0 h.1 k.1 in
-      one-task-of k.0 a b (subst (λ (f : Result FolderProject Refusal). IsTaskOf options files f a) same h.2) k.2
 
 -- ---- the task with the printed text
 
