@@ -1,5 +1,5 @@
 -- Shared: lists by their last items.
-use Rattle.std.proofs.Common.{◌≡◌, ℕ, zero, suc, ◌+◌, ◌<◌, take, drop, List, [], ◌∷◌, ◌++◌, length, Option, Some, None, MatchOption, refl, sym, ap, ◌∙◌, subst, inl, inr, ◌⊎◌, arith}
+use Rattle.std.proofs.Common.{◌≡◌, ℕ, zero, suc, ◌+◌, ◌<◌, take, drop, List, [], ◌∷◌, ◌++◌, length, Option, Some, None, MatchOption, refl, sym, ap, ◌∙◌, subst, inl, inr, ◌⊎◌, arith, append_assoc}
 
 -- a list with one more item, split
 pub snoc-split : {A : Type 0} (xs : List A) (x : A) (front : List A) (l : A) (rest : List A) → xs ++ x ∷ [] ≡ front ++ l ∷ rest
@@ -44,3 +44,10 @@ drop-next k xs = let on : k + 1 ≡ suc k = omega arith in ap (λ n. drop n xs) 
     next zero xs = refl
     next (suc k) [] = refl
     next (suc k) (x ∷ xs) = next k xs
+
+-- the next item of a list, behind those taken up before
+pub taken-next : {A : Type 0} (said spare : List A) (k : ℕ) (was now rest : List A) → now ≡ was ++ take 1 rest → was ≡ said ++ take k spare → rest ≡ drop k spare
+    → now ≡ said ++ take (k + 1) spare
+taken-next said spare k was now rest one before behind =
+    one ∙ ap (λ l. l ++ take 1 rest) before ∙ ap (λ l. (said ++ take k spare) ++ take 1 l) behind
+    ∙ append_assoc said (take k spare) (take 1 (drop k spare)) ∙ ap (λ l. said ++ l) (sym (take-next k spare))

@@ -16,7 +16,7 @@ use crate::chains::{Cell, Chains};
 use crate::row::LinkRow;
 use crate::vars::Vars;
 use choice_problem::{Var, is_before};
-use plan_types::NoMemory;
+use plan_types::{NoMemory, drop_fields};
 use std::alloc::Global;
 use std::marker::Model;
 
@@ -29,15 +29,9 @@ pub struct Links {
     chains: Chains,
 }
 
-// Explicit, so that it is proved once: a derived one is expanded at each exit.
 impl Drop for Links {
     fn drop(self) {
-        let Links {
-            vars: _vars,
-            row: _row,
-            recent: _recent,
-            chains: _chains,
-        } = self;
+        drop_fields!(self; vars, row, recent, chains);
     }
 }
 

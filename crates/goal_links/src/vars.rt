@@ -5,7 +5,7 @@ ghost use Rattle.choice_problem.specs.ConflictSet.{has};
 
 use choice_problem::Var;
 use indexmap::IndexSet;
-use plan_types::NoMemory;
+use plan_types::{NoMemory, drop_fields};
 use std::alloc::Global;
 use std::marker::Model;
 
@@ -14,10 +14,9 @@ pub(crate) struct Vars {
     keys: IndexSet<Var>,
 }
 
-// Explicit, so that it is proved once: a derived one is expanded at each exit.
 impl Drop for Vars {
     fn drop(self) {
-        let Vars { keys: _keys } = self;
+        drop_fields!(self; keys);
     }
 }
 
