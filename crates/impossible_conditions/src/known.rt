@@ -131,23 +131,22 @@ fn joined(
         → AreSet flags both.0 × IsTrue both.1) }
 {
     if second.is_short() {
-        added(alloc, first, second)
+        added(alloc, first.copy(alloc)?, second)
     } else {
-        added(alloc, second, first)
+        added(alloc, second.copy(alloc)?, first)
     }
 }
 
 fn added(
     alloc: Global,
-    long: &FlagSettings,
+    mut long: FlagSettings,
     short: &FlagSettings,
 ) -> Result<(FlagSettings, bool), NoMemory>
-    ensures { IfOk result (λ both. (flags : Flags) → AreSet flags long.now → AreSet flags short.now
+    ensures { IfOk result (λ both. (flags : Flags) → AreSet flags long → AreSet flags short.now
         → AreSet flags both.0 × IsTrue both.1) }
 {
-    let mut settled = long.copy(alloc)?;
-    let fits = settled.add(alloc, short.recent())?;
-    Ok((settled, fits))
+    let fits = long.add(alloc, short.recent())?;
+    Ok((long, fits))
 }
 
 // Whether some path doesn't contradict the settings; true if the paths aren't known.

@@ -4,7 +4,7 @@ ghost use Rattle.conditionals.specs.Paths.{holds};
 ghost use Rattle.conditionals.specs.Value.{Flags};
 ghost use Rattle.impossible_conditions.specs.Settled.{AreSet, HaveEntries};
 
-use plan_types::{FlagSet, List, NoMemory, Shared, Text};
+use plan_types::{FlagSet, List, NoMemory, Shared, Text, drop_fields};
 use std::alloc::Global;
 use std::collections::BTreeMap;
 
@@ -19,13 +19,9 @@ pub struct FlagSettings {
     recent: List<FlagSet>,
 }
 
-// Explicit, so that it is proved once: a derived one is expanded at each exit.
 impl Drop for FlagSettings {
     fn drop(self) {
-        let FlagSettings {
-            shared: _shared,
-            recent: _recent,
-        } = self;
+        drop_fields!(self; shared, recent);
     }
 }
 
