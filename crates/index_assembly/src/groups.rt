@@ -4,7 +4,7 @@ ghost use Rattle.index_assembly.specs.Entries.{entries_named};
 ghost use Rattle.plan_types.specs.Bytes.{same_text};
 
 use indexmap::IndexMap;
-use plan_types::{Entry, List, NoMemory, Text};
+use plan_types::{Entry, List, NoMemory, Text, drop_fields};
 use std::alloc::Global;
 use std::mem;
 
@@ -14,10 +14,9 @@ pub(crate) struct EntriesByName {
     pub by_name: IndexMap<Text, List<Entry>>,
 }
 
-// Explicit, so that it is proved once: a derived one is expanded at each exit.
 impl Drop for EntriesByName {
     fn drop(self) {
-        let EntriesByName { by_name: _by_name } = self;
+        drop_fields!(self; by_name);
     }
 }
 

@@ -9,7 +9,7 @@ ghost use Rattle.plan_types.specs.Bytes.{same_text};
 
 use index_files::Unit;
 use indexmap::IndexSet;
-use plan_types::{List, NoMemory, Text};
+use plan_types::{List, NoMemory, Text, drop_fields};
 use std::alloc::Global;
 
 /// The ids of units, and at the same places the names of their packages.
@@ -19,13 +19,9 @@ pub(crate) struct UnitNames {
     pub names: List<Text>,
 }
 
-// Explicit, so that it is proved once: a derived one is expanded at each exit.
 impl Drop for UnitNames {
     fn drop(self) {
-        let UnitNames {
-            ids: _ids,
-            names: _names,
-        } = self;
+        drop_fields!(self; ids, names);
     }
 }
 

@@ -123,13 +123,10 @@ fn unit_entry(alloc: Global, unit: Unit, known: &UnitNames) -> Result<Entry, NoM
 fn instance_of(alloc: Global, record_of: &UnitRecord) -> Result<Instance, NoMemory>
     ensures { IfOk result (λ instance. instance ≡ unit_instance record_of.now) }
 {
-    let name = record_of.name.copy()?;
-    let version = record_of.version.copy(alloc)?;
-    let unit = record_of.id.copy()?;
     Ok(Instance {
-        name,
-        version,
+        name: record_of.name.copy()?,
+        version: record_of.version.copy(alloc)?,
         origin: Origin::Installed,
-        unit,
+        unit: record_of.id.copy()?,
     })
 }

@@ -7,6 +7,5 @@ use Rattle.index_assembly.proofs.order.sort_skipped.Goals as goal
 pub returns : goal.returns
 returns c =
     let by_calls = always_returns_same _ _ _ (λ a r g h. search rules) in
-    sorted-is is_path_below path-order c.args.skipped.now.items c.sort_by.new.self.items
-    (c.in_ok-sort_by.ensures.sorted is_path_below path-order by_calls)
-    (c.in_ok-sort_by.ensures.stable is_path_below path-order by_calls)
+    let is = c.in_ok-sort_by.ensures in
+    sorted-is is_path_below path-order _ _ (is.sorted is_path_below path-order by_calls) (is.stable is_path_below path-order by_calls)

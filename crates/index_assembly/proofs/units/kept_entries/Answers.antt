@@ -8,10 +8,10 @@ use Rattle.index_assembly.proofs.units.kept_entries.Goals as goal
 
 pub loop-unit-preserved : goal.loop-unit-preserved
 loop-unit-preserved c =
+    let so_far = c.loop-unit.invariant in
     let done = c.loop-unit.yielded in
     let one = c.in-Some.unit in
     let rest = into_iter_items c.next.new.self in
-    let so_far = c.loop-unit.invariant in
     let next : into_iter_items c.loop-unit.unit-iterator ≡ one ∷ rest = search rules in
     let whole : done ++ one ∷ rest ≡ c.args.units = ap (λ l. done ++ l) (sym next) ∙ so_far.all in
     let many = ap (λ (l : List Unit). length l) (sym whole) ∙ length-append done (one ∷ rest) in
