@@ -1,15 +1,19 @@
 -- Items appended to a list, one by one.
-use Rattle.std.proofs.Common.{◌≡◌, List, [], ◌∷◌, ◌++◌, length, map, None, refl, sym, ◌∙◌, ap, append_assoc, append-nil, if◌then◌else◌, arith}
+use Rattle.std.proofs.Common.{◌≡◌, true, false, List, [], ◌∷◌, ◌++◌, length, map, None, refl, sym, ◌∙◌, ap, append_assoc, append-nil, if◌then◌else◌, arith}
 use Rattle.std.specs.Prelude.{position}
 use Rattle.indexmap.specs.IndexSet.{insert_key}
 use Rattle.package_declarations.proofs.FirstPlaces.{position-none}
 use Rattle.plan_types.specs.declared.condition.Env.{Env}
+use Rattle.plan_types.specs.declared.version.Version.{Version}
 use Rattle.outside_folder.specs.Files.{Bytes}
+use Rattle.outside_folder.specs.declared.calls.Content.{Content}
+use Rattle.outside_folder.specs.declared.calls.Content.TheVariants.{Missing, TooLarge, Bytes as Holds}
 use Rattle.outside_folder.specs.declared.folder.Name.{Name}
-use Rattle.index_files.specs.Releases.{AddsRelease, AddsVersion, AreReleases, AreVersions, version_dir}
+use Rattle.index_files.specs.Releases.{AddsRelease, AddsVersion, AreReleases, AreVersions, IsOneRelease, IsReleaseIn, is_missing, version_dir}
 use Rattle.index_files.specs.declared.file.ReadFile.{ReadFile}
 use Rattle.index_files.specs.declared.release.Release.{Release}
 use Rattle.index_files.specs.declared.versions.VersionDir.{VersionDir}
+use Rattle.std.proofs.lemmas.Bool.{false≢true}
 use Rattle.std.proofs.lemmas.List.{map-append}
 use Rattle.plan_types.specs.Bytes.{same_text}
 
@@ -32,6 +36,18 @@ versions-more (m ∷ names) name dirs new h a =
       versions-more names name h.1 (h.1 ++ add) h.3 (a.0, a.1, refl),
       a.2 ∙ ap (λ ds. ds ++ add) h.4 ∙ append_assoc (version_dir m.text h.0) h.1 add,
     )
+
+-- a missing file has no release, any other has one
+pub none-released : (env : Env) (name : Bytes) (version : Version) (path : Bytes) (content : Content) → is_missing content ≡ true → IsReleaseIn env name version path content []
+none-released env name version path Missing h = refl
+none-released env name version path TooLarge h = absurd (false≢true h)
+none-released env name version path (Holds bytes) h = absurd (false≢true h)
+
+pub one-released : (env : Env) (name : Bytes) (version : Version) (path : Bytes) (content : Content) {releases : List Release} → is_missing content ≡ false
+    → IsOneRelease env name version path content releases → IsReleaseIn env name version path content releases
+one-released env name version path Missing h one = absurd (false≢true (sym h))
+one-released env name version path TooLarge h one = one
+one-released env name version path (Holds bytes) h one = one
 
 pub releases-more : (env : Env) (name : Bytes) (dirs : List VersionDir) (files : List ReadFile) (dir : VersionDir) (file : ReadFile) (old new : List Release)
     → length files ≡ length dirs → AreReleases env name dirs files old → AddsRelease env name dir file old new → AreReleases env name (dirs ++ dir ∷ []) (files ++ file ∷ []) new

@@ -1,6 +1,7 @@
 -- Shared: items processed one after another, as far as they are processed.
-use Rattle.std.proofs.Common.{◌≡◌, ℕ, List, [], ◌∷◌, ◌++◌, Option, Result, Ok, Err, refl, sym, ◌∙◌, subst}
+use Rattle.std.proofs.Common.{◌≡◌, ℕ, List, [], ◌∷◌, ◌++◌, Option, Result, Ok, Err, refl, sym, ap, ◌∙◌, subst}
 use Rattle.std.proofs.lemmas.List.{append_assoc, append-nil}
+use Rattle.std.specs.Prelude.{IsErrAnd}
 use Rattle.outside_folder.specs.Calls.{Leaves, halt_of}
 use Rattle.outside_folder.specs.Files.{Files}
 use Rattle.outside_folder.specs.declared.calls.Trouble.{Trouble}
@@ -47,6 +48,11 @@ module _ {X O S R : Type 0} (Comes : X → O → Type 0) (step : S → X → O �
     one-outcome s (x ∷ xs) a b h k =
         one-next xs (λ t c d p q. one-outcome t xs c d p q) (step s x h.0) a b h.2
         (subst (λ o. GoesOn {T = S} (step s x o) (λ taken. InTurn Comes step taken xs b) b) (one x k.0 h.0 k.1 h.1) k.2)
+
+-- an error that a `?` passes on
+pub err-passed : {T E : Type 0} {e : E} (r : Result T E) → IsErrAnd r (λ y. y ≡ e) → r ≡ Err e
+err-passed (Ok x) h = absurd h
+err-passed (Err y) h = ap Err h
 
 -- a halt of one step is that of all, whatever items follow
 pub halted : {X O S A : Type 0} (Comes : X → O → Type 0) (step : S → X → O → Result S Refusal) (f : A → S) (from mid : S) (front : List X) (x : X) (rest : List X) {xs : List X} (h : Halt)

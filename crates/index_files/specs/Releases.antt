@@ -1,5 +1,5 @@
 -- The releases of a package in the index.
-use Rattle.std.specs.Prelude.{◌≡◌, Bool, ◌&&◌, if◌then◌else◌, List, [], ◌∷◌, ◌++◌, false, map, flat_map, unwrap_or, Option, Some, None}
+use Rattle.std.specs.Prelude.{◌≡◌, Bool, ◌&&◌, if◌then◌else◌, List, [], ◌∷◌, ◌++◌, true, false, map, flat_map, unwrap_or, Option, Some, None}
 use Rattle.std.specs.declared.result.Result.{Result}
 use Rattle.std.specs.declared.result.Result.TheVariants.{Ok, Err}
 use Rattle.plan_types.specs.declared.condition.Env.{Env}
@@ -67,6 +67,10 @@ judged_as name version (Err at) = Faulty at.line at.cause
 abbrev pub IsJudged : Env → Bytes → Version → Content → Judged → Type 0
 IsJudged env name version content judged = (outcome : Result Source At) × Comes env content outcome × (judged ≡ judged_as name version outcome)
 
+-- whether a file is missing
+abbrev pub is_missing : Content → Bool
+is_missing content = elim content [ Missing ↦ true | TooLarge ↦ false | Holds bytes ↦ false ]
+
 -- the one release of a file, with its judgement
 abbrev pub IsOneRelease : Env → Bytes → Version → Bytes → Content → List Release → Type 0
 IsOneRelease env name version path content releases =
@@ -112,7 +116,3 @@ AddsVersion text old new = (version : Option Version) × IsVersionOf text versio
 -- the release of a file was appended, if it isn't missing
 abbrev pub AddsRelease : Env → Bytes → VersionDir → ReadFile → List Release → List Release → Type 0
 AddsRelease env name dir file old new = (here : List Release) × IsRelease env name dir file here × (new ≡ old ++ here)
-
--- the one release of a file was appended
-abbrev pub AddsJudged : Env → Bytes → VersionDir → ReadFile → List Release → List Release → Type 0
-AddsJudged env name dir file old new = (here : List Release) × IsOneRelease env name dir.version file.path file.content here × (new ≡ old ++ here)

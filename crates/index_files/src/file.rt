@@ -50,6 +50,20 @@ impl ReadFile {
     }
 }
 
+/// The refusal of a file for a name that an earlier file, the detail, has as well.
+pub(crate) fn repeated(path: Text, cause: Cause, first: &Text) -> Result<Halt, NoMemory>
+    ensures { IfOk result (λ halt.
+        halt ≡ Halt.Refused (record { path = path; line = 0; cause = cause; detail = first.now })) }
+{
+    let detail = first.copy()?;
+    Ok(Halt::Refused(Refusal {
+        path,
+        line: 0,
+        cause,
+        detail,
+    }))
+}
+
 /// The files that were read, and whether the next one was too many.
 #[derive(Debug, Drop)]
 pub(crate) struct Fetched {

@@ -1,7 +1,7 @@
 // A local package.
 ghost use Rattle.std.specs.Prelude.{◌≡◌, IfOk};
 
-use plan_types::{NoMemory, Source, Text};
+use plan_types::{NoMemory, Source, Text, drop_fields};
 
 /// A local package with the path of its file.
 #[derive(Debug)]
@@ -10,13 +10,9 @@ pub struct Local {
     pub source: Source,
 }
 
-// Explicit, so that it is proved once: a derived one is expanded at each exit.
 impl Drop for Local {
     fn drop(self) {
-        let Local {
-            path: _path,
-            source: _source,
-        } = self;
+        drop_fields!(self; path, source);
     }
 }
 

@@ -8,12 +8,12 @@ ghost use Rattle.index_files.specs.Locals.{FileComes, ReadsLocals, TakesLocal, l
 ghost use Rattle.plan_types.specs.Bytes.{same_text};
 ghost use Rattle.plan_types.specs.Refusal.{Answers, Settles};
 
-use crate::file::{ReadFile, read_file};
+use crate::file::{ReadFile, read_file, repeated};
 use crate::file_source::source_in;
 use crate::local::Local;
 use indexmap::IndexSet;
 use outside_folder::Folder;
-use plan_types::{Cause, Env, Fault, Halt, List, NoMemory, Refusal, Source, Text};
+use plan_types::{Cause, Env, Fault, Halt, List, NoMemory, Source, Text, drop_fields};
 use std::alloc::Global;
 
 /// Local packages with their names.
@@ -24,13 +24,9 @@ pub(crate) struct Locals {
     ghost named: { names.keys ≡ local_names list },
 }
 
-// Explicit, so that it is proved once: a derived one is expanded at each exit.
 impl Drop for Locals {
     fn drop(self) {
-        let Locals {
-            list: _list,
-            names: _names,
-        } = self;
+        drop_fields!(self; list, names);
     }
 }
 
@@ -83,13 +79,8 @@ impl Locals {
         match self.names.get_index_of(&local.source.description.name) {
             None => Ok(self.with(local)?),
             Some(place) => {
-                let detail = self.list.as_slice()[place].path.copy()?;
-                Err(Halt::Refused(Refusal {
-                    path: local.into_path(),
-                    line: 0,
-                    cause: Cause::DuplicateLocal,
-                    detail,
-                }))
+                let first = &self.list.as_slice()[place].path;
+                Err(repeated(local.into_path(), Cause::DuplicateLocal, first)?)
             }
         }
     }

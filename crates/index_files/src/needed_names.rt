@@ -5,7 +5,7 @@ ghost use Rattle.index_files.specs.Units.{known_name, needed_by, needed_names};
 use crate::unit::Unit;
 use crate::units::Units;
 use indexmap::IndexMap;
-use plan_types::{List, NoMemory, Text};
+use plan_types::{List, NoMemory, Text, drop_fields};
 use std::alloc::Global;
 
 /// For each package with records, the names that these mention.
@@ -14,10 +14,9 @@ pub(crate) struct MentionedNames {
     pub by_name: IndexMap<Text, List<Text>>,
 }
 
-// Explicit, so that it is proved once: a derived one is expanded at each exit.
 impl Drop for MentionedNames {
     fn drop(self) {
-        let MentionedNames { by_name: _by_name } = self;
+        drop_fields!(self; by_name);
     }
 }
 

@@ -4,7 +4,7 @@ ghost use Rattle.std.specs.List.{AllByRecursion};
 ghost use Rattle.std.specs.declared.result.Result.TheVariants.{Ok};
 ghost use Rattle.outside_folder.specs.Calls.{IsWithin};
 ghost use Rattle.index_files.specs.File.{HasContentWithinLimit};
-ghost use Rattle.index_files.specs.Releases.{AddsJudged, AddsRelease, AreReleases, IsJudged, is_in_place, judged_as};
+ghost use Rattle.index_files.specs.Releases.{AddsRelease, AreReleases, IsJudged, is_in_place, is_missing, judged_as};
 
 use crate::file::ReadFile;
 use crate::file_source::source_in;
@@ -58,27 +58,22 @@ fn push_release(
     requires { HasContentWithinLimit file.now }
     ensures { OnOk result (AddsRelease env.now name.now dir.now file.now releases.old releases.new) }
 {
-    match &file.content {
-        Content::Missing => Ok(()),
-        Content::TooLarge => push_judged(alloc, releases, name, dir, file, env),
-        Content::Bytes(_) => push_judged(alloc, releases, name, dir, file, env),
+    if is_missing(&file.content) {
+        return Ok(());
     }
-}
-
-fn push_judged(
-    alloc: Global,
-    releases: &mut List<Release>,
-    name: &Text,
-    dir: &VersionDir,
-    file: &ReadFile,
-    env: &Env,
-) -> Result<(), NoMemory>
-    requires { HasContentWithinLimit file.now }
-    ensures { OnOk result (AddsJudged env.now name.now dir.now file.now releases.old releases.new) }
-{
     let judged = judge(alloc, name, &dir.version, &file.content, env)?;
     let path = file.path.copy()?;
-    releases.push(Release { path, judged })
+    releases.push(Release { path, judged })?;
+    Ok(())
+}
+
+fn is_missing(content: &Content) -> bool
+    ensures { result ≡ is_missing content.now }
+{
+    match content {
+        Content::Missing => true,
+        Content::TooLarge | Content::Bytes(_) => false,
+    }
 }
 
 fn judge(

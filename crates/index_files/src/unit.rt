@@ -1,7 +1,7 @@
 // An installed unit.
 ghost use Rattle.std.specs.Prelude.{◌≡◌, IfOk};
 
-use plan_types::{NoMemory, Text, UnitRecord};
+use plan_types::{NoMemory, Text, UnitRecord, drop_fields};
 
 /// An installed unit with the path of its record.
 #[derive(Debug)]
@@ -10,13 +10,9 @@ pub struct Unit {
     pub record_of: UnitRecord,
 }
 
-// Explicit, so that it is proved once: a derived one is expanded at each exit.
 impl Drop for Unit {
     fn drop(self) {
-        let Unit {
-            path: _path,
-            record_of: _record_of,
-        } = self;
+        drop_fields!(self; path, record_of);
     }
 }
 

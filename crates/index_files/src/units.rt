@@ -11,13 +11,13 @@ ghost use Rattle.index_files.specs.InTurn.{OnPart, Steps};
 ghost use Rattle.index_files.specs.Sources.{bytes_in};
 ghost use Rattle.index_files.specs.Units.{AreUnitsOf, OfRecord, RecordComes, TakesFound, TakesUnit, is_well_formed, place_of, unit_id, unit_ids, with_found, with_record, with_unit};
 
-use crate::file::{ReadFile, read_file};
+use crate::file::{ReadFile, read_file, repeated};
 use crate::file_source::bytes_of;
 use crate::totals::{Totals, too_many};
 use crate::unit::Unit;
 use indexmap::IndexSet;
 use outside_folder::{Content, Folder};
-use plan_types::{Cause, Fault, Halt, List, NoMemory, Places, Refusal, Text, UnitRecord};
+use plan_types::{Cause, Fault, Halt, List, NoMemory, Places, Text, UnitRecord, drop_fields};
 use std::alloc::Global;
 use std::marker::Model;
 use unit_record::read_record;
@@ -29,13 +29,9 @@ pub struct Units {
     ids: IndexSet<Text>,
 }
 
-// Explicit, so that it is proved once: a derived one is expanded at each exit.
 impl Drop for Units {
     fn drop(self) {
-        let Units {
-            list: _list,
-            ids: _ids,
-        } = self;
+        drop_fields!(self; list, ids);
     }
 }
 
@@ -154,13 +150,8 @@ impl Units {
         match self.ids.get_index_of(&unit.record_of.id) {
             None => Ok(self.with(unit)?),
             Some(place) => {
-                let detail = self.list.as_slice()[place].path.copy()?;
-                Err(Halt::Refused(Refusal {
-                    path: unit.into_path(),
-                    line: 0,
-                    cause: Cause::DuplicateUnit,
-                    detail,
-                }))
+                let first = &self.list.as_slice()[place].path;
+                Err(repeated(unit.into_path(), Cause::DuplicateUnit, first)?)
             }
         }
     }

@@ -13,7 +13,7 @@ use crate::release::{Release, releases_of};
 use crate::totals::Totals;
 use crate::versions::{VersionDir, versions_among};
 use outside_folder::{Folder, Name, Trouble, list_names};
-use plan_types::{List, NoMemory, Places, Text};
+use plan_types::{Env, List, NoMemory, Places, Text};
 use std::alloc::Global;
 
 /// Reads the releases of a name; none if the files are too many. A local name has no releases.
@@ -32,35 +32,30 @@ pub(crate) fn read_name<F: Folder>(
     if before.locals.names.contains(name) {
         return Ok(Some(List::new(alloc)));
     }
-    read_releases(alloc, before, name, totals, folder)
+    read_releases(alloc, before.places, before.env, name, totals, folder)
 }
 
 fn read_releases<F: Folder>(
     alloc: Global,
-    before: &ReadBefore,
+    places: &Places,
+    env: &Env,
     name: &Text,
     totals: &mut Totals,
     folder: &mut F,
 ) -> Result<Option<List<Release>>, Trouble>
     ensures observed { IfSome (F.tells folder.old) (λ files. IfOk result
-        (Reads before.now.env.now before.now.places.now files name.now totals.old totals.new)) }
-    ensures judged { IfOk result (λ read. IfSome read (AreJudged before.now.env.now name.now)) }
+        (Reads env.now places.now files name.now totals.old totals.new)) }
+    ensures judged { IfOk result (λ read. IfSome read (AreJudged env.now name.now)) }
     ensures folder { Leaves F.tells F.faults folder.old folder.new (IsErrOf result Trouble.Failed) }
 {
-    let names = names_below(alloc, before.places, name, folder)?;
+    let names = names_below(alloc, places, name, folder)?;
     let dirs = versions_among(alloc, names.as_slice())?;
-    let paths = release_paths(alloc, before.places, name, dirs.as_slice())?;
+    let paths = release_paths(alloc, places, name, dirs.as_slice())?;
     let read = read_counted(alloc, paths.as_slice(), totals, folder)?;
     if read.beyond {
         return Ok(None);
     }
-    let releases = releases_of(
-        alloc,
-        name,
-        dirs.as_slice(),
-        read.files.as_slice(),
-        before.env,
-    )?;
+    let releases = releases_of(alloc, name, dirs.as_slice(), read.files.as_slice(), env)?;
     Ok(Some(releases))
 }
 

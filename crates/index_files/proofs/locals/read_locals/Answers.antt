@@ -1,6 +1,4 @@
-use Rattle.std.proofs.Common.{◌≡◌, List, [], ◌∷◌, ◌++◌, true, map, Ok, Err, ◌∙◌, ap, refl, subst, sym}
-use Rattle.std.proofs.lemmas.List.{take_all}
-use Rattle.std.proofs.lemmas.Result.{err_from_is_err_and}
+use Rattle.std.proofs.Common.{◌≡◌, List, [], ◌∷◌, ◌++◌, true, Ok, Err, ◌∙◌, refl, subst, sym}
 use Rattle.outside_folder.proofs.CallSequences.{onward, still}
 use Rattle.outside_folder.specs.Calls.{halt_of}
 use Rattle.index_files.specs.File.{file_found}
@@ -11,8 +9,8 @@ use Rattle.index_files.specs.declared.file.ReadFile.{ReadFile}
 use Rattle.index_files.specs.declared.local.Local.{Local}
 use Rattle.index_files.specs.declared.locals.Locals.{Locals}
 use Rattle.index_files.proofs.Forms.{locals-from-files}
-use Rattle.index_files.proofs.KnownFiles.{map_split, map_take}
-use Rattle.index_files.proofs.StepsInTurn.{Through, begun, halted, more, never-passed, settled, troubled, whole}
+use Rattle.index_files.proofs.KnownFiles.{all_known, map_take, split_known}
+use Rattle.index_files.proofs.StepsInTurn.{Through, begun, err-passed, halted, more, never-passed, settled, troubled, whole}
 use Rattle.common_laws.specs.Small.{if_some, some_at}
 use Rattle.index_files.proofs.locals.read_locals.Goals as goal
 
@@ -38,39 +36,33 @@ loop-path-preserved g c =
 
 pub returns-in_err-file-clause-observed : goal.returns-in_err-file-clause-observed
 returns-in_err-file-clause-observed g c = if_some _ _ (λ files t.
-    let p = err_from_is_err_and c.from_residual.result c.from_residual.ensures.1 in
-    let passed : c.from_residual.result ≡ Err (halt_of c.in_err-file.field-0.0) = p.1 ∙ ap Err p.2 in
+    let passed : c.from_residual.result ≡ Err (halt_of c.in_err-file.field-0.0) = err-passed c.from_residual.result c.from_residual.ensures.1 in
     let Is = OnPart (λ (l : Locals). l.list) (ReadsLocals c.args.env.now c.args.paths.now files) in
     subst (Answers Is) (sym passed) (troubled Is c.in_err-file.field-0.0))
 
 pub returns-in_err-locals-clause-observed : goal.returns-in_err-locals-clause-observed
 returns-in_err-locals-clause-observed g c = if_some _ _ (λ files t.
-    let p = err_from_is_err_and c.from_residual-in_err-locals.result c.from_residual-in_err-locals.ensures.1 in
-    let passed : c.from_residual-in_err-locals.result ≡ Err c.in_err-locals.field-0.0 = p.1 ∙ ap Err p.2 in
+    let passed : c.from_residual-in_err-locals.result ≡ Err c.in_err-locals.field-0.0 = err-passed c.from_residual-in_err-locals.result c.from_residual-in_err-locals.ensures.1 in
     let env = c.args.env.now in
     let f = file_found true files in
     let taken = c.loop-path.invariant.taken in
-    let found : c.in_ok-file.file ≡ f c.path-item.result = some_at _ _ files (c.loop-path.invariant.folder.same_files ∙ t) c.in_ok-file.ensures.observed in
-    let split = map_split f c.args.paths.now c.loop-path.path-index c.path-item.result c.loop-path-test.true c.path-item.is in
-    let all : map f c.args.paths.now ≡ (taken.0 ++ c.in_ok-file.file ∷ []) ++ split.0 = split.1 ∙ (λ i. (sym (taken.2 files t) i ++ sym found i ∷ []) ++ split.0) in
+    let all = split_known f c.args.paths.now c.loop-path.path-index c.path-item.result taken.0 c.in_ok-file.file c.loop-path-test.true c.path-item.is (taken.2 files t) (some_at _ _ files (c.loop-path.invariant.folder.same_files ∙ t) c.in_ok-file.ensures.observed) in
     let Is = OnPart (λ (l : Locals). l.list) (ReadsLocals env c.args.paths.now files) in
     subst (Answers Is) (sym passed)
     (settled Is (Err c.in_err-locals.field-0.0)
-    (halted (FileComes env) with_file (λ (l : Locals). l.list) [] c.loop-path.locals.list taken.0 c.in_ok-file.file split.0 c.in_err-locals.field-0.0 all taken.1 c.in_err-locals.ensures)))
+    (halted (FileComes env) with_file (λ (l : Locals). l.list) [] c.loop-path.locals.list taken.0 c.in_ok-file.file all.0 c.in_err-locals.field-0.0 all.1 taken.1 c.in_err-locals.ensures)))
 
 pub returns-in_err-locals-clause-folder : goal.returns-in_err-locals-clause-folder
 returns-in_err-locals-clause-folder g c =
-    let p = err_from_is_err_and c.from_residual-in_err-locals.result c.from_residual-in_err-locals.ensures.1 in
-    let passed : c.from_residual-in_err-locals.result ≡ Err c.in_err-locals.field-0.0 = p.1 ∙ ap Err p.2 in
+    let passed : c.from_residual-in_err-locals.result ≡ Err c.in_err-locals.field-0.0 = err-passed c.from_residual-in_err-locals.result c.from_residual-in_err-locals.ensures.1 in
     let Is = OnPart (λ (l : Locals). l.list) (Steps (FileComes c.args.env.now) with_file c.loop-path.locals.list c.in_ok-file.file) in
     onward _ _ _ _ _ (λ e. absurd (never-passed Is c.in_err-locals.field-0.0 c.from_residual-in_err-locals.result c.in_err-locals.ensures passed e)) (λ e. absurd (cc e))
     c.loop-path.invariant.folder c.in_ok-file.ensures.folder
 
 pub returns-clause-observed : goal.returns-clause-observed
 returns-clause-observed g c = if_some _ _ (λ files t.
-    let f = file_found true files in
     let taken = c.loop-path.invariant.taken in
-    let read : taken.0 ≡ map f c.args.paths.now = taken.2 files t ∙ ap (map f) (take_all c.loop-path.path-index c.args.paths.now c.loop-path-test.false) in
+    let read = all_known (file_found true files) c.args.paths.now c.loop-path.path-index taken.0 c.loop-path-test.false (taken.2 files t) in
     subst (λ (fs : List ReadFile). AreLocals c.args.env.now fs (Ok c.loop-path.locals.list)) read (whole (FileComes c.args.env.now) with_file [] c.loop-path.locals.list taken.0 taken.1))
 
 pub returns-clause-form : goal.returns-clause-form

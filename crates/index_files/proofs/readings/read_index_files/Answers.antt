@@ -1,5 +1,4 @@
-use Rattle.std.proofs.Common.{◌≡◌, List, map, Ok, Err, ◌∙◌, ap, subst, sym}
-use Rattle.std.proofs.lemmas.Result.{err_from_is_err_and}
+use Rattle.std.proofs.Common.{◌≡◌, List, map, Ok, Err, ◌∙◌, subst, sym}
 use Rattle.index_files.specs.Closure.{Ground}
 use Rattle.index_files.specs.InTurn.{OnPart}
 use Rattle.plan_types.specs.Refusal.{Answers}
@@ -14,15 +13,14 @@ use Rattle.index_files.specs.declared.locals.Locals.{Locals}
 use Rattle.index_files.specs.declared.units.Counted.{Counted}
 use Rattle.index_files.specs.declared.unit.Unit.{Unit}
 use Rattle.index_files.proofs.Ending.{locals-refused, then-indexed, then-refused}
-use Rattle.index_files.proofs.StepsInTurn.{refused-as}
+use Rattle.index_files.proofs.StepsInTurn.{err-passed, refused-as}
 use Rattle.plan_types.specs.Bytes.{same_text}
 use Rattle.common_laws.specs.Small.{if_some, some_at}
 use Rattle.index_files.proofs.readings.read_index_files.Goals as goal
 
 pub returns-in_err-locals-clause-observed : goal.returns-in_err-locals-clause-observed
 returns-in_err-locals-clause-observed g c = if_some _ _ (λ files t.
-    let p = err_from_is_err_and c.from_residual.result c.from_residual.ensures.1 in
-    let passed : c.from_residual.result ≡ Err c.in_err-locals.field-0.0 = p.1 ∙ ap Err p.2 in
+    let passed : c.from_residual.result ≡ Err c.in_err-locals.field-0.0 = err-passed c.from_residual.result c.from_residual.ensures.1 in
     let Was = AreReadings c.args.env.now c.args.places.now c.args.extra.now c.args.paths.now files in
     let told = some_at _ _ files t c.in_err-locals.ensures.observed in
     subst (Answers Was) (sym passed)
@@ -31,8 +29,7 @@ returns-in_err-locals-clause-observed g c = if_some _ _ (λ files t.
 
 pub returns-in_err-read-clause-observed : goal.returns-in_err-read-clause-observed
 returns-in_err-read-clause-observed g c = if_some _ _ (λ files t.
-    let p = err_from_is_err_and c.from_residual-in_err-read.result c.from_residual-in_err-read.ensures.1 in
-    let passed : c.from_residual-in_err-read.result ≡ Err c.in_err-read.field-0.0 = p.1 ∙ ap Err p.2 in
+    let passed : c.from_residual-in_err-read.result ≡ Err c.in_err-read.field-0.0 = err-passed c.from_residual-in_err-read.result c.from_residual-in_err-read.ensures.1 in
     let Was = AreReadings c.args.env.now c.args.places.now c.args.extra.now c.args.paths.now files in
     let locals = subst (λ ps. ReadsLocals c.args.env.now ps files (Ok c.in_ok-locals.locals.list)) c.as_slice.ensures (some_at _ _ files t c.in_ok-locals.ensures.observed) in
     let told = some_at _ _ files (c.in_ok-locals.ensures.folder.same_files ∙ t) c.in_err-read.ensures.observed in
@@ -42,8 +39,7 @@ returns-in_err-read-clause-observed g c = if_some _ _ (λ files t.
 
 pub returns-in_err-readings-clause-observed : goal.returns-in_err-readings-clause-observed
 returns-in_err-readings-clause-observed g c = if_some _ _ (λ files t.
-    let p = err_from_is_err_and c.from_residual-in_err-readings.result c.from_residual-in_err-readings.ensures.1 in
-    let passed : c.from_residual-in_err-readings.result ≡ Err c.in_err-readings.field-0.0 = p.1 ∙ ap Err p.2 in
+    let passed : c.from_residual-in_err-readings.result ≡ Err c.in_err-readings.field-0.0 = err-passed c.from_residual-in_err-readings.result c.from_residual-in_err-readings.ensures.1 in
     let Was = AreReadings c.args.env.now c.args.places.now c.args.extra.now c.args.paths.now files in
     let locals = subst (λ ps. ReadsLocals c.args.env.now ps files (Ok c.in_ok-locals.locals.list)) c.as_slice.ensures (some_at _ _ files t c.in_ok-locals.ensures.observed) in
     let still = c.in_ok-locals.ensures.folder.same_files ∙ t in

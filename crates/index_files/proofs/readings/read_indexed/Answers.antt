@@ -1,19 +1,17 @@
-use Rattle.std.proofs.Common.{◌≡◌, Err, ◌∙◌, ap, refl, subst, sym}
-use Rattle.std.proofs.lemmas.Result.{err_from_is_err_and}
+use Rattle.std.proofs.Common.{◌≡◌, Err, refl, subst, sym}
 use Rattle.plan_types.specs.declared.refusal.Halt.{Halt}
 use Rattle.outside_folder.specs.Calls.{halt_of}
 use Rattle.index_files.specs.Closure.{Ground, Reaches}
 use Rattle.plan_types.specs.Refusal.{Answers}
 use Rattle.index_files.specs.Readings.{AreIndexed, AreOverGround, AreRead}
 use Rattle.index_files.proofs.Forms.{all-formed}
-use Rattle.index_files.proofs.StepsInTurn.{troubled}
+use Rattle.index_files.proofs.StepsInTurn.{err-passed, troubled}
 use Rattle.common_laws.specs.Small.{if_some, some_at}
 use Rattle.index_files.proofs.readings.read_indexed.Goals as goal
 
 pub returns-in_err-found-clause-observed : goal.returns-in_err-found-clause-observed
 returns-in_err-found-clause-observed g c = if_some _ _ (λ files t.
-    let p = err_from_is_err_and c.from_residual-in_err-found.result c.from_residual-in_err-found.ensures.1 in
-    let passed : c.from_residual-in_err-found.result ≡ Err (halt_of c.in_err-found.field-0.0) = p.1 ∙ ap Err p.2 in
+    let passed : c.from_residual-in_err-found.result ≡ Err (halt_of c.in_err-found.field-0.0) = err-passed c.from_residual-in_err-found.result c.from_residual-in_err-found.ensures.1 in
     let ground : Ground = record { env = c.args.env.now; places = c.args.places.now; locals = c.args.first.locals.list; units = c.args.first.counted.units; extra = c.args.extra.now } in
     let Is = AreIndexed ground c.args.first.counted.totals.files c.args.first.counted.totals.bytes files in
     subst (Answers Is) (sym passed) (troubled Is c.in_err-found.field-0.0))

@@ -1,7 +1,5 @@
 use Rattle.std.proofs.Common.{◌≡◌, ◌+◌, List, [], ◌∷◌, ◌++◌, true, false, map, Err, ◌∙◌, ap, refl, subst, sym}
 use Rattle.std.proofs.lemmas.Bool.{not-false, not-true}
-use Rattle.std.proofs.lemmas.List.{take_all}
-use Rattle.std.proofs.lemmas.Result.{err_from_is_err_and}
 use Rattle.outside_folder.proofs.CallSequences.{onward, still}
 use Rattle.outside_folder.specs.Calls.{halt_of}
 use Rattle.plan_types.specs.Refusal.{Answers}
@@ -13,9 +11,9 @@ use Rattle.index_files.specs.Units.{AreUnitsOf, RecordComes, with_record}
 use Rattle.index_files.specs.declared.unit.Unit.{Unit}
 use Rattle.index_files.specs.declared.units.Counted.{Counted}
 use Rattle.index_files.proofs.Forms.{units-once}
-use Rattle.index_files.proofs.KnownFiles.{map_split, map_take}
+use Rattle.index_files.proofs.KnownFiles.{all_known, map_take, split_known}
 use Rattle.index_files.proofs.Recording.{bytes-on, counts-first, files-on, fit-first, fit-on, units-all, units-beyond, units-halted}
-use Rattle.index_files.proofs.StepsInTurn.{Through, begun, more, never-passed, troubled, whole}
+use Rattle.index_files.proofs.StepsInTurn.{Through, begun, err-passed, more, never-passed, troubled, whole}
 use Rattle.common_laws.specs.Small.{if_some, some_at}
 use Rattle.index_files.proofs.units.read_records.Goals as goal
 
@@ -54,8 +52,7 @@ loop-path-preserved g c =
 
 pub returns-in_err-file-clause-observed : goal.returns-in_err-file-clause-observed
 returns-in_err-file-clause-observed g c = if_some _ _ (λ files t.
-    let p = err_from_is_err_and c.from_residual.result c.from_residual.ensures.1 in
-    let passed : c.from_residual.result ≡ Err (halt_of c.in_err-file.field-0.0) = p.1 ∙ ap Err p.2 in
+    let passed : c.from_residual.result ≡ Err (halt_of c.in_err-file.field-0.0) = err-passed c.from_residual.result c.from_residual.ensures.1 in
     let Is = OnPart (λ (n : Counted). n.units) (AreUnitsOf c.args.places.now (map (file_found true files) c.args.paths.now)) in
     subst (Answers Is) (sym passed) (troubled Is c.in_err-file.field-0.0))
 
@@ -63,34 +60,26 @@ pub returns-then-not-count-clause-observed : goal.returns-then-not-count-clause-
 returns-then-not-count-clause-observed g c = if_some _ _ (λ files t.
     let f = file_found true files in
     let taken = c.loop-path.invariant.taken in
-    let found : c.in_ok-file.file ≡ f c.path-item.result = some_at _ _ files (c.loop-path.invariant.folder.same_files ∙ t) c.in_ok-file.ensures.observed in
-    let split = map_split f c.args.paths.now c.loop-path.path-index c.path-item.result c.loop-path-test.true c.path-item.is in
-    let all : map f c.args.paths.now ≡ (taken.0 ++ c.in_ok-file.file ∷ []) ++ split.0 = split.1 ∙ (λ i. (sym (taken.4 files t) i ++ sym found i ∷ []) ++ split.0) in
-    let beyond : is_too_many (c.loop-path.totals.files + c.count.result) (c.loop-path.totals.bytes + c.size.result) ≡ true = not-false _ (sym c.if-not-count.ensures.fits) in
-    let many = (λ i. is_too_many (c.loop-path.totals.files + sym c.count.ensures i) (c.loop-path.totals.bytes + sym c.size.ensures i)) ∙ beyond in
+    let all = split_known f c.args.paths.now c.loop-path.path-index c.path-item.result taken.0 c.in_ok-file.file c.loop-path-test.true c.path-item.is (taken.4 files t) (some_at _ _ files (c.loop-path.invariant.folder.same_files ∙ t) c.in_ok-file.ensures.observed) in
+    let many = (λ i. is_too_many (c.loop-path.totals.files + sym c.count.ensures i) (c.loop-path.totals.bytes + sym c.size.ensures i)) ∙ not-false _ (sym c.if-not-count.ensures.fits) in
     let Is = OnPart (λ (n : Counted). n.units) (AreUnitsOf c.args.places.now (map f c.args.paths.now)) in
     subst (λ (h : Halt). Answers Is (Err h)) (sym c.in_ok-too_many.ensures)
-    (units-beyond c.args.places.now (map f c.args.paths.now) taken.0 c.loop-path.units c.loop-path.totals taken.2 taken.1 c.in_ok-file.file split.0 all many))
+    (units-beyond c.args.places.now (map f c.args.paths.now) taken.0 c.loop-path.units c.loop-path.totals taken.2 taken.1 c.in_ok-file.file all.0 all.1 many))
 
 pub returns-in_err-units-clause-observed : goal.returns-in_err-units-clause-observed
 returns-in_err-units-clause-observed g c = if_some _ _ (λ files t.
-    let p = err_from_is_err_and c.from_residual-in_err-units.result c.from_residual-in_err-units.ensures.1 in
-    let passed : c.from_residual-in_err-units.result ≡ Err c.in_err-units.field-0.0 = p.1 ∙ ap Err p.2 in
+    let passed : c.from_residual-in_err-units.result ≡ Err c.in_err-units.field-0.0 = err-passed c.from_residual-in_err-units.result c.from_residual-in_err-units.ensures.1 in
     let f = file_found true files in
     let taken = c.loop-path.invariant.taken in
-    let found : c.in_ok-file.file ≡ f c.path-item.result = some_at _ _ files (c.loop-path.invariant.folder.same_files ∙ t) c.in_ok-file.ensures.observed in
-    let split = map_split f c.args.paths.now c.loop-path.path-index c.path-item.result c.loop-path-test.true c.path-item.is in
-    let all : map f c.args.paths.now ≡ (taken.0 ++ c.in_ok-file.file ∷ []) ++ split.0 = split.1 ∙ (λ i. (sym (taken.4 files t) i ++ sym found i ∷ []) ++ split.0) in
-    let few : is_too_many (c.loop-path.totals.files + c.count.result) (c.loop-path.totals.bytes + c.size.result) ≡ false = not-true _ (sym c.if-not-count.ensures.fits) in
-    let less = (λ i. is_too_many (c.loop-path.totals.files + sym c.count.ensures i) (c.loop-path.totals.bytes + sym c.size.ensures i)) ∙ few in
+    let all = split_known f c.args.paths.now c.loop-path.path-index c.path-item.result taken.0 c.in_ok-file.file c.loop-path-test.true c.path-item.is (taken.4 files t) (some_at _ _ files (c.loop-path.invariant.folder.same_files ∙ t) c.in_ok-file.ensures.observed) in
+    let less = (λ i. is_too_many (c.loop-path.totals.files + sym c.count.ensures i) (c.loop-path.totals.bytes + sym c.size.ensures i)) ∙ not-true _ (sym c.if-not-count.ensures.fits) in
     let Is = OnPart (λ (n : Counted). n.units) (AreUnitsOf c.args.places.now (map f c.args.paths.now)) in
     subst (Answers Is) (sym passed)
-    (units-halted c.args.places.now (map f c.args.paths.now) taken.0 c.loop-path.units c.loop-path.totals taken.2 taken.1 c.in_ok-file.file split.0 all less c.in_err-units.field-0.0 c.in_err-units.ensures))
+    (units-halted c.args.places.now (map f c.args.paths.now) taken.0 c.loop-path.units c.loop-path.totals taken.2 taken.1 c.in_ok-file.file all.0 all.1 less c.in_err-units.field-0.0 c.in_err-units.ensures))
 
 pub returns-in_err-units-clause-folder : goal.returns-in_err-units-clause-folder
 returns-in_err-units-clause-folder g c =
-    let p = err_from_is_err_and c.from_residual-in_err-units.result c.from_residual-in_err-units.ensures.1 in
-    let passed : c.from_residual-in_err-units.result ≡ Err c.in_err-units.field-0.0 = p.1 ∙ ap Err p.2 in
+    let passed : c.from_residual-in_err-units.result ≡ Err c.in_err-units.field-0.0 = err-passed c.from_residual-in_err-units.result c.from_residual-in_err-units.ensures.1 in
     let Is = Steps RecordComes with_record c.loop-path.units c.in_ok-file.file in
     onward _ _ _ _ _ (λ e. absurd (never-passed Is c.in_err-units.field-0.0 c.from_residual-in_err-units.result c.in_err-units.ensures passed e)) (λ e. absurd (cc e))
     c.loop-path.invariant.folder c.in_ok-file.ensures.folder
@@ -99,14 +88,14 @@ pub returns-clause-observed : goal.returns-clause-observed
 returns-clause-observed g c = if_some _ _ (λ files t.
     let f = file_found true files in
     let taken = c.loop-path.invariant.taken in
-    let read : taken.0 ≡ map f c.args.paths.now = taken.4 files t ∙ ap (map f) (take_all c.loop-path.path-index c.args.paths.now c.loop-path-test.false) in
+    let read = all_known f c.args.paths.now c.loop-path.path-index taken.0 c.loop-path-test.false (taken.4 files t) in
     units-all c.args.places.now (map f c.args.paths.now) taken.0 c.loop-path.units c.loop-path.totals taken.2 taken.1 read)
 
 pub returns-clause-counts : goal.returns-clause-counts
 returns-clause-counts g c = if_some _ _ (λ files t.
     let f = file_found true files in
     let taken = c.loop-path.invariant.taken in
-    let read : taken.0 ≡ map f c.args.paths.now = taken.4 files t ∙ ap (map f) (take_all c.loop-path.path-index c.args.paths.now c.loop-path-test.false) in
+    let read = all_known f c.args.paths.now c.loop-path.path-index taken.0 c.loop-path-test.false (taken.4 files t) in
     subst (CountsAll c.loop-path.totals) read taken.3)
 
 pub returns-clause-once : goal.returns-clause-once
