@@ -7,7 +7,7 @@ ghost use Rattle.node_lines.specs.Gather.{added, empty, gathered, line_at, neede
 use plan_components::Reached;
 use plan_lines::Needed;
 use plan_nodes::PlanNode;
-use plan_types::{DepKind, List, NoMemory, Text};
+use plan_types::{DepKind, List, NoMemory, Text, drop_fields};
 use std::alloc::Global;
 use std::collections::BTreeSet;
 
@@ -18,14 +18,9 @@ pub(crate) struct Sets {
     pub setups: BTreeSet<Text>,
 }
 
-// Explicit, so that it is proved once: a derived one is expanded at each exit.
 impl Drop for Sets {
     fn drop(self) {
-        let Sets {
-            libs: _libs,
-            tools: _tools,
-            setups: _setups,
-        } = self;
+        drop_fields!(self; libs, tools, setups);
     }
 }
 
