@@ -10,7 +10,7 @@ ghost use Rattle.outside_folder.specs.Folder.{Lists, Reads, IsInOrder, IsWithinL
 ghost use Rattle.outside_folder.specs.Faults.{Rose, among, ceiling_of, fails_next, next_count};
 
 use crate::{FILE_LIMIT, Folder, FolderFault, Name};
-use plan_types::{List, NoMemory, Text};
+use plan_types::{List, NoMemory, Text, drop_fields};
 use std::alloc::Global;
 use std::collections::BTreeMap;
 use thiserror::Error;
@@ -58,17 +58,9 @@ pub struct MemFolder {
     ghost bounded: { faults ≤ ceiling_of fail_at },
 }
 
-// Explicit, so that it is proved once: a derived one is expanded at each exit.
 impl Drop for MemFolder {
     fn drop(self) {
-        let MemFolder {
-            files: _files,
-            places: _places,
-            dirs: _dirs,
-            fail_at: _fail_at,
-            calls: _calls,
-            faults: _faults,
-        } = self;
+        drop_fields!(self; files, places, dirs, fail_at, calls, faults);
     }
 }
 
