@@ -1,5 +1,5 @@
 -- The components of a file whose imports are replaced.
-use Rattle.std.specs.Prelude.{Bool, false, ◌&&◌, not, if◌then◌else◌, List, [], ◌∷◌, map, flat_map, Option, Some, None, unwrap_or}
+use Rattle.std.specs.Prelude.{Bool, false, ◌&&◌, if◌then◌else◌, List, [], ◌∷◌, map, flat_map, Option, None, unwrap_or}
 use Rattle.plan_types.specs.declared.condition.Cond.{Cond}
 use Rattle.plan_types.specs.declared.condition.Cond.TheVariants.{Not}
 use Rattle.plan_types.specs.declared.description.CompKind.{CompKind}
@@ -9,10 +9,10 @@ use Rattle.section_syntax.specs.Branch.{all_of}
 use Rattle.section_syntax.specs.declared.part.File.{File}
 use Rattle.section_syntax.specs.declared.part.SectionPart.{SectionPart}
 use Rattle.section_syntax.specs.declared.part.Said.{Said}
-use Rattle.section_syntax.specs.declared.part.Said.TheVariants as said
 use Rattle.section_syntax.specs.declared.part.Section.{Section}
 use Rattle.section_syntax.specs.declared.part.SectionKind.TheVariants as kinds
 use Rattle.package_declarations.specs.Declarations.{meant}
+use Rattle.package_declarations.specs.Given.{given}
 use Rattle.text_grammar.specs.Last.{last_given}
 use Rattle.stanza_imports.specs.Imports.{with_imports_replaced}
 use Rattle.stanza_imports.specs.Parts.{deps_said, is_named_library}
@@ -23,16 +23,7 @@ guarded file part = map (λ dep. record { when = all_of part.branches; dep = mea
 
 -- whether a part is `buildable: False`
 abbrev pub unbuildable_said : Said → Bool
-unbuildable_said (said.Import names fits) = false
-unbuildable_said (said.Depends deps) = false
-unbuildable_said (said.Buildable None) = false
-unbuildable_said (said.Buildable (Some value)) = not value
-unbuildable_said (said.Visibility value) = false
-unbuildable_said (said.Default value) = false
-unbuildable_said (said.Manual value) = false
-unbuildable_said said.BuildTools = false
-unbuildable_said (said.Branch word condition fits) = false
-unbuildable_said said.Misplaced = false
+unbuildable_said said = (given said).unbuildable
 
 -- the condition that such a part's branches aren't taken
 abbrev pub barrier : SectionPart → List Cond
@@ -44,15 +35,7 @@ buildable parts = all_of (flat_map barrier parts)
 
 -- the visibility that a part gives
 abbrev pub visibility_said : Said → Option Bool
-visibility_said (said.Import names fits) = None
-visibility_said (said.Depends deps) = None
-visibility_said (said.Buildable value) = None
-visibility_said (said.Visibility value) = value
-visibility_said (said.Default value) = None
-visibility_said (said.Manual value) = None
-visibility_said said.BuildTools = None
-visibility_said (said.Branch word condition fits) = None
-visibility_said said.Misplaced = None
+visibility_said said = (given said).visibility
 
 -- the same, but only outside of branches
 abbrev pub visibility_of : SectionPart → Option Bool

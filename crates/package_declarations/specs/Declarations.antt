@@ -23,15 +23,11 @@ use Rattle.package_declarations.specs.declared.declarations.Meaning.{Meaning}
 use Rattle.package_declarations.specs.declared.declarations.Meaning.TheVariants.{Other, Own, OwnLibrary}
 use Rattle.plan_types.specs.Bytes.{same_text}
 use Rattle.text_grammar.specs.Last.{last_given}
-use Rattle.plan_types.specs.Packages.{library_name, is_main}
+use Rattle.plan_types.specs.Packages.{library_name, is_library as is_library_kind, is_main}
 
 -- whether a section is a library
 abbrev pub is_library : SectionKind → Bool
-is_library (kinds.Component component.Library) = true
-is_library (kinds.Component component.Executable) = false
-is_library (kinds.Component component.Test) = false
-is_library (kinds.Component component.Bench) = false
-is_library (kinds.Component component.Foreign) = false
+is_library (kinds.Component kind) = is_library_kind kind
 is_library kinds.Common = false
 is_library kinds.Flag = false
 is_library kinds.Setup = false

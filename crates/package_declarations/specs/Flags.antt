@@ -1,38 +1,22 @@
 -- The flags that a package declares.
-use Rattle.std.specs.Prelude.{Bool, true, false, if◌then◌else◌, List, [], ◌∷◌, flat_map, Option, None, unwrap_or}
+use Rattle.std.specs.Prelude.{Bool, true, false, if◌then◌else◌, List, [], ◌∷◌, flat_map, Option, unwrap_or}
 use Rattle.std.specs.Cmp.Lexicographic.{slice_cmp}
 use Rattle.std.specs.List.Sorted.{IsPermutation, IsSortedBy, IsStableBy}
 use Rattle.std.specs.Ordering.{nat_cmp, is_lt}
 use Rattle.plan_types.specs.declared.description.FlagDecl.{FlagDecl}
 use Rattle.section_syntax.specs.declared.part.Said.{Said}
-use Rattle.section_syntax.specs.declared.part.Said.TheVariants as said
 use Rattle.section_syntax.specs.declared.part.Section.{Section}
 use Rattle.package_declarations.specs.Declarations.{is_flag}
+use Rattle.package_declarations.specs.Given.{given}
 use Rattle.text_grammar.specs.Last.{last_given}
 
 -- the default that a part gives to a flag
 abbrev pub default_said : Said → Option Bool
-default_said (said.Import names fits) = None
-default_said (said.Depends deps) = None
-default_said (said.Buildable value) = None
-default_said (said.Visibility value) = None
-default_said (said.Default value) = value
-default_said (said.Manual value) = None
-default_said said.BuildTools = None
-default_said (said.Branch word condition fits) = None
-default_said said.Misplaced = None
+default_said said = (given said).default
 
 -- whether a part makes a flag manual
 abbrev pub manual_said : Said → Option Bool
-manual_said (said.Import names fits) = None
-manual_said (said.Depends deps) = None
-manual_said (said.Buildable value) = None
-manual_said (said.Visibility value) = None
-manual_said (said.Default value) = None
-manual_said (said.Manual value) = value
-manual_said said.BuildTools = None
-manual_said (said.Branch word condition fits) = None
-manual_said said.Misplaced = None
+manual_said said = (given said).manual
 
 -- the flag of a section; the last value of a field counts
 abbrev pub flag_of : Section → FlagDecl

@@ -1,4 +1,5 @@
 pub mod Declarations
+pub mod Given
 pub mod Flags
 pub mod Setup
 pub mod Components

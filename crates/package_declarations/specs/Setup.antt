@@ -10,11 +10,11 @@ use Rattle.section_syntax.specs.declared.part.Head.{Head}
 use Rattle.section_syntax.specs.declared.part.Head.TheVariants as head
 use Rattle.section_syntax.specs.declared.part.SectionPart.{SectionPart}
 use Rattle.section_syntax.specs.declared.part.Said.{Said}
-use Rattle.section_syntax.specs.declared.part.Said.TheVariants as said
 use Rattle.section_syntax.specs.declared.part.Section.{Section}
 use Rattle.section_syntax.specs.declared.part.SectionKind.{SectionKind}
 use Rattle.section_syntax.specs.declared.part.SectionKind.TheVariants as kinds
 use Rattle.text_grammar.specs.Last.{last_given}
+use Rattle.package_declarations.specs.Given.{given}
 use Rattle.stanza_imports.specs.Parts.{deps_said}
 
 -- whether a section is for the setup script
@@ -36,15 +36,7 @@ is_custom file = unwrap_or (last_given (λ field. custom_said field.head) file.h
 
 -- whether a part is a field of dependencies
 abbrev pub is_dependency : Said → Bool
-is_dependency (said.Import names fits) = false
-is_dependency (said.Depends deps) = true
-is_dependency (said.Buildable value) = false
-is_dependency (said.Visibility value) = false
-is_dependency (said.Default value) = false
-is_dependency (said.Manual value) = false
-is_dependency said.BuildTools = false
-is_dependency (said.Branch word condition fits) = false
-is_dependency said.Misplaced = false
+is_dependency said = (given said).dependency
 
 -- the parts of the setup sections
 abbrev pub setup_parts : List Section → List SectionPart

@@ -12,7 +12,7 @@ ghost use Rattle.plan_types.specs.Packages.{library_name, is_main};
 ghost use Rattle.package_declarations.specs.DeclaredNames.{shown, RepresentsNames};
 ghost use Rattle.package_declarations.specs.AskedSections.{is_of};
 
-use plan_types::{CompKind, Cond, Dep, DepKind, LibName, List, NoMemory, Spec, Text};
+use plan_types::{CompKind, Cond, Dep, DepKind, LibName, List, NoMemory, Spec, Text, drop_fields};
 use section_syntax::{File, Head, HeadField, Section, SectionKind};
 use stanza_imports::NameSet;
 use std::alloc::Global;
@@ -27,16 +27,9 @@ pub struct Declared<'a> {
     executables: NameSet<'a>,
 }
 
-// Explicit, so that it is proved once: a derived one is expanded at each exit.
 impl<'a> Drop for Declared<'a> {
     fn drop(self) {
-        let Declared {
-            spec: _spec,
-            name: _name,
-            flags: _flags,
-            libraries: _libraries,
-            executables: _executables,
-        } = self;
+        drop_fields!(self; spec, name, flags, libraries, executables);
     }
 }
 
@@ -212,18 +205,10 @@ fn own_library(alloc: Global, own: &Text, dep: &Dep) -> Result<Dep, NoMemory>
 {
     let mut libs = List::new(alloc);
     libs.push(LibName::Named(dep.package.copy()?))?;
-    let package = own.copy()?;
-    let exe = dep.exe.copy()?;
-    let range = dep.range.copy(alloc)?;
-    Ok(Dep {
-        line: dep.line,
-        kind: dep.kind,
-        package,
-        libs,
-        exe,
-        range,
-        internal: true,
-    })
+    let mut found = internal(alloc, dep)?;
+    found.package = own.copy()?;
+    found.libs = libs;
+    Ok(found)
 }
 
 /// The last `name` counts, even if it is ill-formed.

@@ -1,6 +1,6 @@
 // The flags of a package.
 
-ghost use Rattle.std.specs.Prelude.{◌≡◌, true, false, unwrap_or, IfOk, OnOk};
+ghost use Rattle.std.specs.Prelude.{◌≡◌, unwrap_or, IfOk, OnOk};
 ghost use Rattle.std.specs.List.Sorted.{IsPermutation, IsSortedBy, IsStableBy};
 ghost use Rattle.package_declarations.specs.Flags.{AreFlags, declared_flags, default_said, flag_of, manual_said, name_before};
 ghost use Rattle.text_grammar.specs.Last.{last_given};
@@ -42,51 +42,38 @@ fn sort(flags: &mut Vec<FlagDecl>) -> Result<(), NoMemory>
 fn flag(section: &Section) -> Result<FlagDecl, NoMemory>
     ensures { IfOk result (λ found. found ≡ flag_of section.now) }
 {
-    let parts = section.parts.as_slice();
-    let default = is_default(parts);
-    let manual = is_manual(parts);
-    Ok(FlagDecl {
+    let name = section.name.copy()?;
+    let mut flag = FlagDecl {
         line: section.line,
-        name: section.name.copy()?,
-        default,
-        manual,
-    })
+        name,
+        default: true,
+        manual: false,
+    };
+    set_all(&mut flag, section.parts.as_slice());
+    Ok(flag)
 }
 
-fn is_default(parts: &[SectionPart]) -> bool
-    ensures { result ≡ unwrap_or (last_given (λ part. default_said part.said) parts.now) true }
+// The last value of a field counts.
+fn set_all(flag: &mut FlagDecl, parts: &[SectionPart])
+    ensures { flag.new ≡ record flag.old {
+      default = unwrap_or (last_given (λ part. default_said part.said) parts.now) flag.old.default;
+      manual = unwrap_or (last_given (λ part. manual_said part.said) parts.now) flag.old.manual;
+    } }
 {
-    let mut default = true;
     for part in parts {
-        default = default_said(&part.said, default);
+        set(flag, &part.said);
     }
-    default
 }
 
-fn default_said(said: &Said, unsaid: bool) -> bool
-    ensures { result ≡ unwrap_or (default_said said.now) unsaid }
+fn set(flag: &mut FlagDecl, said: &Said)
+    ensures { flag.new ≡ record flag.old {
+      default = unwrap_or (default_said said.now) flag.old.default;
+      manual = unwrap_or (manual_said said.now) flag.old.manual;
+    } }
 {
     match said {
-        Said::Default(Some(on)) => *on,
-        _ => unsaid,
-    }
-}
-
-fn is_manual(parts: &[SectionPart]) -> bool
-    ensures { result ≡ unwrap_or (last_given (λ part. manual_said part.said) parts.now) false }
-{
-    let mut manual = false;
-    for part in parts {
-        manual = manual_said(&part.said, manual);
-    }
-    manual
-}
-
-fn manual_said(said: &Said, unsaid: bool) -> bool
-    ensures { result ≡ unwrap_or (manual_said said.now) unsaid }
-{
-    match said {
-        Said::Manual(Some(on)) => *on,
-        _ => unsaid,
+        Said::Default(Some(on)) => flag.default = *on,
+        Said::Manual(Some(on)) => flag.manual = *on,
+        _ => {}
     }
 }

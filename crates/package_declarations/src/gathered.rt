@@ -17,7 +17,9 @@ ghost use Rattle.stanza_imports.specs.Parts.{deps_said};
 
 use crate::branches::{Level, added, conjunction, enter, leave, number_at};
 use crate::declarations::Declared;
-use plan_types::{BuildInfo, Cond, Conditions, Dep, DepGroup, Guard, List, NoMemory, Row, Shared};
+use plan_types::{
+    BuildInfo, Cond, Conditions, Dep, DepGroup, Guard, List, NoMemory, Row, Shared, drop_fields,
+};
 use section_syntax::Said;
 use stanza_imports::Placed;
 use std::alloc::Global;
@@ -33,15 +35,9 @@ pub struct Gathered {
     barred: Option<usize>,
 }
 
-// Explicit, so that it is proved once: a derived one is expanded at each exit.
 impl Drop for Gathered {
     fn drop(self) {
-        let Gathered {
-            conds: _conds,
-            levels: _levels,
-            groups: _groups,
-            barred: _barred,
-        } = self;
+        drop_fields!(self; conds, levels, groups, barred);
     }
 }
 
