@@ -1,5 +1,6 @@
 //! Tests only. Tables of calls with their answers, for cases that no run of the program reaches: of graphs, searches,
 //! builds and answers. It promises nothing.
+//! Public modules aren't for tests alone, so that mistakes in them are tried.
 #![tactic(auto)]
 
 #[cfg(test)]
@@ -8,8 +9,7 @@ mod answers;
 mod builds;
 #[cfg(test)]
 mod flags;
-#[cfg(test)]
-mod graphs;
+pub mod graphs;
 #[cfg(test)]
 mod orders;
 #[cfg(test)]
