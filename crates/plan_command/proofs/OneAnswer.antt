@@ -1,14 +1,9 @@
 -- Words and files determine the output.
 use Rattle.std.proofs.Common.{◌≡◌, ℕ, Bool, false, List, Result, Ok, Err, Option, Some, None, sym, ap, subst, ◌∙◌}
 use Rattle.plan_types.specs.declared.condition.Env.{Env}
-use Rattle.plan_types.specs.declared.dependency.Named.{Named}
 use Rattle.plan_types.specs.declared.index.Index.{Index}
 use Rattle.plan_types.specs.declared.project.Settings.{Settings}
 use Rattle.plan_types.specs.declared.refusal.Refusal.{Refusal}
-use Rattle.plan_types.specs.declared.index.Places.{Places}
-use Rattle.project_config.specs.Project.{IsFolderProject}
-use Rattle.project_config.specs.declared.project.FolderProject.{FolderProject}
-use Rattle.index_assembly.specs.Folder.{IsFolderIndex}
 use Rattle.outside_folder.specs.Files.{Bytes, Files}
 use Rattle.command_line.specs.Reading.{default_options, reading}
 use Rattle.command_line.specs.declared.reading.Command.{Command}
@@ -22,7 +17,7 @@ use Rattle.plan_command.specs.declared.form.Form.{Form}
 use Rattle.plan_command.specs.declared.form.Form.TheVariants.{Lines, Json, Summary, Freeze as as_constraints, Replay as at_events}
 use Rattle.plan_command.specs.Form.{IsPlanText, form_of, frozen_form}
 use Rattle.plan_command.specs.declared.output.Output.{Output}
-use Rattle.plan_task.specs.Task.{IsTask, IsTaskOf, task_or_refusal}
+use Rattle.plan_task.proofs.OneTask.{OneIndex, OneProject, one_task}
 use Rattle.plan_task.specs.declared.task.Task.{Task}
 use Rattle.plan_search.specs.Finding.{IsFindingOf}
 use Rattle.plan_search.specs.declared.search.Finding.{Finding}
@@ -41,13 +36,6 @@ use Rattle.plan_nodes.specs.declared.node.PlanNode.{PlanNode}
 use Rattle.elaborate.specs.Plan.{IsPlan}
 use Rattle.plan_command.specs.Output.{IsOutputOfOutcome, IsPlanned}
 use Rattle.plan_command.specs.Run.{IsOutputAtEvents, IsOutputAtTask, IsOutputOf, IsOutputOfCommand, IsOutputOfFreeze, IsOutputOfPlan, IsOutputOfRead, IsOutputOfReplay, IsOutputOfTask}
-
-abbrev pub OneProject : Type 0
-OneProject = (env : Env) (files : Files) (a b : Result FolderProject Refusal) → IsFolderProject env files a → IsFolderProject env files b → a ≡ b
-
-abbrev pub OneIndex : Type 0
-OneIndex = (env : Env) (places : Places) (extra : List Named) (paths : List Bytes) (files : Files) (a b : Result Index Refusal)
-    → IsFolderIndex env places extra paths files a → IsFolderIndex env places extra paths files b → a ≡ b
 
 abbrev pub OneFinding : Type 0
 OneFinding = (picking : Picking) (minimize : Bool) (index : Index) (settings : Settings) (a b : Finding) → IsFindingOf picking minimize index settings a
@@ -107,33 +95,23 @@ module _ (project : OneProject) (one : OneIndex) (alike : OneFinding) (plan : On
   at_task path slots files (Err refusal) a b h k = h ∙ sym k
 
   module _ (options : Options) (files : Files) where
-    one_task_of : (found : Result FolderProject Refusal) (a b : Result Task Refusal) → IsTaskOf options files found a → IsTaskOf options files found b → a ≡ b
-    one_task_of (Ok found) a b h k =
-        h.2 ∙ ap (task_or_refusal options found.project found.freeze) (one options.env options.places found.project.extra found.locals files h.0 k.0 h.1 k.1) ∙ sym k.2
-    one_task_of (Err refusal) a b h k = h ∙ sym k
-
-    one_task : (a b : Result Task Refusal) → IsTask options files a → IsTask options files b → a ≡ b
-    one_task a b h k =
-        let same = project options.env files h.0 k.0 h.1 k.1 in
-        one_task_of k.0 a b (subst (λ (f : Result FolderProject Refusal). IsTaskOf options files f a) same h.2) k.2
-
     of_plan : (form : Form) (a b : Output) → IsOutputOfPlan form options files a → IsOutputOfPlan form options files b → a ≡ b
     unfolding IsOutputOfPlan
     of_plan form a b h k =
-        let same = one_task h.0 k.0 h.1 k.1 in
+        let same = one_task project one options files h.0 k.0 h.1 k.1 in
         of_read (picking_of options) options.minimize form k.0 a b
         (subst (λ (r : Result Task Refusal). IsOutputOfRead (picking_of options) options.minimize form r a) same h.2) k.2
 
     of_freeze : (a b : Output) → IsOutputOfFreeze options files a → IsOutputOfFreeze options files b → a ≡ b
     unfolding IsOutputOfFreeze
     of_freeze a b h k =
-        let same = one_task h.0 k.0 h.1 k.1 in
+        let same = one_task project one options files h.0 k.0 h.1 k.1 in
         of_read Least false (frozen_form files) k.0 a b (subst (λ (r : Result Task Refusal). IsOutputOfRead Least false (frozen_form files) r a) same h.2) k.2
 
     of_replay : (path : Bytes) (slots : ℕ) (a b : Output) → IsOutputOfReplay options path slots files a → IsOutputOfReplay options path slots files b → a ≡ b
     unfolding IsOutputOfReplay
     of_replay path slots a b h k =
-        let same = one_task h.0 k.0 h.1 k.1 in
+        let same = one_task project one options files h.0 k.0 h.1 k.1 in
         at_task path slots files k.0 a b (subst (λ (r : Result Task Refusal). IsOutputAtTask path slots files r a) same h.2) k.2
 
   of_command : (files : Files) (command : Option Command) (a b : Output) → IsOutputOfCommand command files a → IsOutputOfCommand command files b → a ≡ b
