@@ -4,7 +4,7 @@ ghost use Rattle.conditionals.specs.Value.{each_once};
 
 use crate::node::Node;
 use keyed_lists::Lists;
-use plan_types::{FlagSet, List, Text};
+use plan_types::{FlagSet, List, Text, drop_fields};
 use qualified_goals::Var;
 
 /// A package under a qualifier, its flags with their values, and the places of its components by name.
@@ -15,14 +15,9 @@ pub(crate) struct KnownOwner {
     ghost once: { each_once flags ≡ true },
 }
 
-// Explicit, so that it is proved once: a derived one is expanded at each exit.
 impl Drop for KnownOwner {
     fn drop(self) {
-        let KnownOwner {
-            owner: _owner,
-            flags: _flags,
-            places: _places,
-        } = self;
+        drop_fields!(self; owner, flags, places);
     }
 }
 

@@ -11,7 +11,7 @@ use crate::node::{Need, Node};
 use crate::put::{put_all, put_needed};
 use crate::wanted::first_nodes;
 use indexmap::IndexSet;
-use plan_types::{List, NoMemory};
+use plan_types::{List, NoMemory, drop_fields};
 use std::alloc::Global;
 
 /// The nodes of a plan. At the index of each are its needs, and the places of the nodes that it needs.
@@ -22,14 +22,9 @@ pub struct Reached {
     pub places: List<List<usize>>,
 }
 
-// Explicit, so that it is proved once: a derived one is expanded at each exit.
 impl Drop for Reached {
     fn drop(self) {
-        let Reached {
-            set: _set,
-            needs: _needs,
-            places: _places,
-        } = self;
+        drop_fields!(self; set, needs, places);
     }
 }
 

@@ -19,8 +19,7 @@ returns-in_ok-push_asked c =
 pub returns-else-condition_holds : goal.returns-else-condition_holds
 returns-else-condition_holds c =
     let selection = selection_of c.args.chosen.now in
-    let node = c.args.owner.now.node in
     let flags = c.args.owner.now.known.now.flags in
     let group = c.args.group.now in
     let unmet : condition_holds selection.env flags group.when ≡ false = ap (condition_holds selection.env flags) (sym c.get.ensures) ∙ sym c.condition_holds.ensures ∙ c.if-condition_holds.false in
-    sym (ap (λ l. c.args.needs.now ++ l) (none-among selection flags c.args.dependent.now.own c.args.dependent.now.component.now c.requires.built group.when node unmet group.deps) ∙ append-nil c.args.needs.now)
+    sym (ap (λ l. c.args.needs.now ++ l) (none-among selection flags c.args.dependent.now.own c.args.dependent.now.component.now c.requires.built group.when c.args.owner.now.node unmet group.deps) ∙ append-nil c.args.needs.now)
