@@ -25,6 +25,10 @@ state_here states place state lt = get_or-set_same states place state Waiting lt
 pub state_there : (states : List JobState) (place other : ℕ) (state : JobState) → (other ≡ place → ⊥) → state_at (set states place state) other ≡ state_at states other
 state_there states place other state n = get_or-set_other states place other state Waiting n
 
+-- a node that was seen to run does so in the states themselves
+pub still_runs : (states seen : List JobState) (asked place : ℕ) → seen ≡ states → place ≡ asked → state_at seen asked ≡ Running → state_at states place ≡ Running
+still_runs states seen asked place same found runs = ap (λ (states : List JobState). state_at states place) (sym same) ∙ ap (λ k. state_at seen k) found ∙ runs
+
 -- a place with a state other than Waiting is that of a node
 pub state_within : (states : List JobState) (place : ℕ) (state : JobState) → (Waiting ≡ state → ⊥) → state_at states place ≡ state → place < length states
 state_within [] place state n e = absurd (n e)

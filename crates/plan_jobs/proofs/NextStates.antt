@@ -1,14 +1,16 @@
 -- Shared: the states after one more event.
 use Rattle.std.proofs.Common.{◌≡◌, ◌<◌, ◌||◌, ◌⊎◌, ⊎_elim, ℕ, Bool, true, false, List, [], ◌∷◌, ◌++◌, Ok, Err, length, set, refl, sym, subst, ap, ◌∙◌, arith, length-append}
-use Rattle.std.specs.Prelude.{⊤, count_by}
+use Rattle.std.specs.Prelude.{⊤, Result, IsErrAnd, count_by}
 use Rattle.std.specs.List.{list_any}
 use Rattle.std.proofs.lemmas.Bool.{cases_eq}
 use Rattle.std.proofs.lemmas.List.{length-set, ext_get_or}
+use Rattle.std.proofs.lemmas.Result.{err_from_is_err_and}
 use Rattle.std.proofs.lemmas.List.FromFn.{length-map-range_with_len, get_or-map-range_with_len}
 use Rattle.std.proofs.lemmas.List.Folds.{list_any-append}
 use Rattle.common_laws.specs.Lists.{push_split}
 use Rattle.plan_nodes.specs.declared.node.PlanNode.{PlanNode}
 use Rattle.plan_jobs.specs.declared.job.JobFault.{JobFault}
+use Rattle.plan_jobs.specs.declared.job.JobFault.TheVariants.{NotRunning}
 use Rattle.plan_jobs.specs.declared.job.JobState.{JobState}
 use Rattle.plan_jobs.specs.declared.job.JobState.TheVariants.{Waiting, Running, Completed, Failed}
 use Rattle.plan_jobs.specs.Events.{Event, IsReportReply, IsHistory, IsRight, IsStart, Runs, completes, fails, starts, is_completion_of, is_failure_of, is_installed, is_running, is_start_of, node_at, running_after, state_after, state_by, states_after}
@@ -126,6 +128,19 @@ history_goes nodes slots events event h r front rest other e = ⊎_elim
     (λ b. h front b.0 other b.1)
     (push_split front events rest other event e)
 
+-- the board with another state of a node
+abbrev pub with_state : Board → ℕ → JobState → Board
+with_state board place state = record { users = board.users; states = set board.states place state; slots = board.slots }
+
+-- the same, where the states and the place were read from the board
+pub state_set : (inside board : Board) (new : List JobState) (found place : ℕ) (state : JobState) → inside ≡ board → new ≡ set inside.states found state → found ≡ place
+    → record { users = inside.users; states = new; slots = inside.slots } ≡ with_state board place state
+state_set inside board new found place state is new_is found_is =
+    (λ i. record { users = inside.users; states = new_is i; slots = inside.slots }) ∙ (λ i. with_state (is i) (found_is i) state)
+
+abbrev IsRunningAt : ℕ → List JobState → Type 0
+IsRunningAt place states = (place < length states) × (state_at states place ≡ Running)
+
 module _ (nodes : List PlanNode) (slots : ℕ) (events : List Event) (board : Board) (a : AreAfter nodes slots events board) where
   pub after_count : length board.states ≡ length nodes
   after_count = ap length a.states ∙ states_count nodes events
@@ -146,43 +161,46 @@ module _ (nodes : List PlanNode) (slots : ℕ) (events : List Event) (board : Bo
         limit = a.limit;
       }
 
-  pub after_change : (event : Event) (place : ℕ) (state : JobState) → IsRight nodes slots events event → place < length nodes → state_after nodes (events ++ event ∷ []) place ≡ state
+  pub after_change : (event : Event) (place : ℕ) (state : JobState) (after : Board) → after ≡ with_state board place state → IsRight nodes slots events event → place < length nodes → state_after nodes (events ++ event ∷ []) place ≡ state
       → ((other : ℕ) → (other ≡ place → ⊥) → state_after nodes (events ++ event ∷ []) other ≡ state_after nodes events other)
-      → AreAfter nodes slots (events ++ event ∷ []) (record { users = board.users; states = set board.states place state; slots = board.slots })
-  after_change event place state r lt now same =
-      record {
+      → AreAfter nodes slots (events ++ event ∷ []) after
+  after_change event place state after is r lt now same =
+      subst (AreAfter nodes slots (events ++ event ∷ [])) (sym is) (record {
         history = history_goes nodes slots events event a.history r;
         users = a.users;
         states = ap (λ s. set s place state) a.states ∙ sym (one_changes nodes events event place state lt now same);
         limit = a.limit;
-      }
+      })
 
   -- refusals
   pub after_no_start : (fault : JobFault) → IsStart nodes slots events (Err fault) → AreAfter nodes slots (events ++ starts (Err fault) ∷ []) board
   after_no_start fault r = after_quiet (starts (Err fault)) r (λ place. stays_so nodes events (starts (Err fault)) place refl refl refl)
 
-  pub after_no_completion : (place : ℕ) (fault : JobFault) → IsReportReply nodes events place (Err fault) → AreAfter nodes slots (events ++ completes place (Err fault) ∷ []) board
-  after_no_completion place fault r = after_quiet (completes place (Err fault)) r (λ other. stays_so nodes events (completes place (Err fault)) other refl refl refl)
+  pub after_no_completion : (place : ℕ) (fault : JobFault) (reply : Result ⊤ JobFault) → IsErrAnd reply (λ f. f ≡ fault) → IsReportReply nodes events place reply
+      → AreAfter nodes slots (events ++ completes place reply ∷ []) board
+  after_no_completion place fault (Ok accepted) e r = absurd e
+  after_no_completion place fault (Err found) e r = after_quiet (completes place (Err found)) r (λ other. stays_so nodes events (completes place (Err found)) other refl refl refl)
 
-  pub after_no_failure : (place : ℕ) (fault : JobFault) → IsReportReply nodes events place (Err fault) → AreAfter nodes slots (events ++ fails place (Err fault) ∷ []) board
-  after_no_failure place fault r = after_quiet (fails place (Err fault)) r (λ other. stays_so nodes events (fails place (Err fault)) other refl refl refl)
+  pub after_no_failure : (place : ℕ) (fault : JobFault) (reply : Result ⊤ JobFault) → IsErrAnd reply (λ f. f ≡ fault) → IsReportReply nodes events place reply
+      → AreAfter nodes slots (events ++ fails place reply ∷ []) board
+  after_no_failure place fault (Ok accepted) e r = absurd e
+  after_no_failure place fault (Err found) e r = after_quiet (fails place (Err found)) r (λ other. stays_so nodes events (fails place (Err found)) other refl refl refl)
 
-  pub after_start : (place : ℕ) → IsStart nodes slots events (Ok place)
-      → AreAfter nodes slots (events ++ starts (Ok place) ∷ []) (record { users = board.users; states = set board.states place Running; slots = board.slots })
+  pub after_start : (place : ℕ) → IsStart nodes slots events (Ok place) → AreAfter nodes slots (events ++ starts (Ok place) ∷ []) (with_state board place Running)
   after_start place r =
-      after_change (starts (Ok place)) place Running r r.1.ready.node (starts_now nodes events place r.1.ready.waits)
+      after_change (starts (Ok place)) place Running _ refl r r.1.ready.node (starts_now nodes events place r.1.ready.waits)
       (λ other n. stays_so nodes events (starts (Ok place)) other refl refl (other_place place other (λ e. n (sym e))))
 
-  pub after_completion : (place : ℕ) (accepted : ⊤) → Runs nodes events place
-      → AreAfter nodes slots (events ++ completes place (Ok accepted) ∷ []) (record { users = board.users; states = set board.states place Completed; slots = board.slots })
-  after_completion place accepted r =
-      after_change (completes place (Ok accepted)) place Completed r r.0 (completes_now nodes events place accepted r.1)
+  pub after_completion : (place : ℕ) (accepted : ⊤) (after : Board) → after ≡ with_state board place Completed → Runs nodes events place
+      → AreAfter nodes slots (events ++ completes place (Ok accepted) ∷ []) after
+  after_completion place accepted after is r =
+      after_change (completes place (Ok accepted)) place Completed after is r r.0 (completes_now nodes events place accepted r.1)
       (λ other n. stays_so nodes events (completes place (Ok accepted)) other refl (other_place place other (λ e. n (sym e))) refl)
 
-  pub after_failure : (place : ℕ) (accepted : ⊤) → Runs nodes events place
-      → AreAfter nodes slots (events ++ fails place (Ok accepted) ∷ []) (record { users = board.users; states = set board.states place Failed; slots = board.slots })
-  after_failure place accepted r =
-      after_change (fails place (Ok accepted)) place Failed r r.0 (fails_now nodes events place accepted)
+  pub after_failure : (place : ℕ) (accepted : ⊤) (after : Board) → after ≡ with_state board place Failed → Runs nodes events place
+      → AreAfter nodes slots (events ++ fails place (Ok accepted) ∷ []) after
+  after_failure place accepted after is r =
+      after_change (fails place (Ok accepted)) place Failed after is r r.0 (fails_now nodes events place accepted)
       (λ other n. stays_so nodes events (fails place (Ok accepted)) other (other_place place other (λ e. n (sym e))) refl refl)
 
   -- running nodes
@@ -191,3 +209,13 @@ module _ (nodes : List PlanNode) (slots : ℕ) (events : List Event) (board : Bo
 
   pub runs_to : (place : ℕ) → Runs nodes events place → (place < length board.states) × (state_at board.states place ≡ Running)
   runs_to place r = (subst (λ n. place < n) (sym after_count) r.0, after_state place r.0 ∙ r.1)
+
+  -- the reply about a node, where its state was read from the board's states
+  pub accepted : (place : ℕ) (seen : List JobState) → seen ≡ board.states → (place < length seen) × (state_at seen place ≡ Running) → Runs nodes events place
+  accepted place seen same found = runs_from place (subst (IsRunningAt place) same found)
+
+  pub refused : (place : ℕ) (seen : List JobState) (fault : JobFault) (reply : Result ⊤ JobFault) → seen ≡ board.states → (fault ≡ NotRunning) × (IsRunningAt place seen → ⊥)
+      → IsErrAnd reply (λ f. f ≡ fault) → IsReportReply nodes events place reply
+  refused place seen fault reply same found e =
+      let told = err_from_is_err_and reply e in
+      subst (IsReportReply nodes events place) (sym (told.1 ∙ ap Err (told.2 ∙ found.0))) (λ runs. found.1 (subst (IsRunningAt place) (sym same) (runs_to place runs)))

@@ -12,7 +12,7 @@ use crate::marks::Marks;
 use crate::meeting::{count_down, ready_at_first};
 use crate::needs::Needs;
 use plan_nodes::PlanNode;
-use plan_types::{List, NoMemory};
+use plan_types::{List, NoMemory, drop_fields};
 use std::alloc::Global;
 use std::marker::Model;
 
@@ -32,19 +32,9 @@ pub struct Jobs {
     to_hold: Marks,
 }
 
-// Explicit, so that it is proved once: a derived one is expanded at each exit.
 impl Drop for Jobs {
     fn drop(self) {
-        let Jobs {
-            slots: _slots,
-            running: _running,
-            users: _users,
-            states: _states,
-            unmet: _unmet,
-            ready: _ready,
-            held: _held,
-            to_hold: _to_hold,
-        } = self;
+        drop_fields!(self; slots, running, users, states, unmet, ready, held, to_hold);
     }
 }
 

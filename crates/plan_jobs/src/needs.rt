@@ -141,10 +141,7 @@ fn first_state(node: &PlanNode) -> JobState
 fn is_installed(kind: NodeKind) -> bool
     ensures { result ≡ is_installed kind }
 {
-    match kind {
-        NodeKind::Installed => true,
-        NodeKind::Local | NodeKind::Store => false,
-    }
+    kind == NodeKind::Installed
 }
 
 pub(crate) fn is_completed(state: JobState) -> bool
