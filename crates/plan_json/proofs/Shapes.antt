@@ -76,47 +76,36 @@ node-text node = node-shape node ∙ ap₂ (node-with node) (ids-text node) (tru
 
 -- ---- the lines
 
+-- the members that each answer has behind the others, with these texts of the notes
+abbrev end-with : List ℕ → Counts → List ℕ → List ℕ → List (List ℕ) → List (List ℕ)
+end-with status counts skipped warnings rest =
+    codes ",\"skipped\":" ∷ skipped
+    ∷ codes ",\"status\":\"" ∷ status
+    ∷ codes "\",\"visited\":" ∷ decimal counts.visited
+    ∷ codes ",\"warnings\":" ∷ warnings
+    ∷ rest
+
 -- the lines, with these texts of their lists
 abbrev gave-up-with : Counts → List ℕ → List ℕ → List ℕ
 gave-up-with counts skipped warnings =
     concat
     (codes "{\"exhausted\":" ∷ decimal counts.exhausted
-    ∷ codes ",\"skipped\":" ∷ skipped
-    ∷ codes ",\"status\":\"gave up\",\"visited\":" ∷ decimal counts.visited
-    ∷ codes ",\"warnings\":" ∷ warnings
-    ∷ codes "}" ∷ [])
+    ∷ end-with (codes "gave up") counts skipped warnings (codes "}" ∷ []))
+
+-- a conflict up to the exhausted points, and the rest of its line
+abbrev conflict-front : Counts → List ℕ → List (List ℕ) → List ℕ
+conflict-front counts conflict rest = concat (codes "{\"conflict\":" ∷ conflict ∷ codes ",\"exhausted\":" ∷ decimal counts.exhausted ∷ rest)
 
 abbrev conflict-with : Counts → List ℕ → List ℕ → List ℕ → List ℕ
-conflict-with counts conflict skipped warnings =
-    concat
-    (codes "{\"conflict\":" ∷ conflict
-    ∷ codes ",\"exhausted\":" ∷ decimal counts.exhausted
-    ∷ codes ",\"skipped\":" ∷ skipped
-    ∷ codes ",\"status\":\"no plan\",\"visited\":" ∷ decimal counts.visited
-    ∷ codes ",\"warnings\":" ∷ warnings
-    ∷ codes "}" ∷ [])
+conflict-with counts conflict skipped warnings = conflict-front counts conflict (end-with (codes "no plan") counts skipped warnings (codes "}" ∷ []))
 
 abbrev shrunk-with : Counts → List ℕ → List ℕ → List ℕ → List ℕ → List ℕ
 shrunk-with counts conflict without skipped warnings =
-    concat
-    (codes "{\"conflict\":" ∷ conflict
-    ∷ codes ",\"exhausted\":" ∷ decimal counts.exhausted
-    ∷ codes ",\"skipped\":" ∷ skipped
-    ∷ codes ",\"status\":\"no plan\",\"visited\":" ∷ decimal counts.visited
-    ∷ codes ",\"warnings\":" ∷ warnings
-    ∷ codes ",\"without\":" ∷ without
-    ∷ codes "}" ∷ [])
+    conflict-front counts conflict (end-with (codes "no plan") counts skipped warnings (codes ",\"without\":" ∷ without ∷ codes "}" ∷ []))
 
 abbrev not-shrunk-with : ℕ → Counts → List ℕ → List ℕ → List ℕ → List ℕ
 not-shrunk-with spent counts conflict skipped warnings =
-    concat
-    (codes "{\"conflict\":" ∷ conflict
-    ∷ codes ",\"exhausted\":" ∷ decimal counts.exhausted
-    ∷ codes ",\"not_minimised\":" ∷ decimal spent
-    ∷ codes ",\"skipped\":" ∷ skipped
-    ∷ codes ",\"status\":\"no plan\",\"visited\":" ∷ decimal counts.visited
-    ∷ codes ",\"warnings\":" ∷ warnings
-    ∷ codes "}" ∷ [])
+    conflict-front counts conflict (codes ",\"not_minimised\":" ∷ decimal spent ∷ end-with (codes "no plan") counts skipped warnings (codes "}" ∷ []))
 
 abbrev plan-with : Counts → List ℕ → List ℕ → List ℕ → List ℕ → List ℕ
 plan-with counts choices nodes skipped warnings =
@@ -124,10 +113,7 @@ plan-with counts choices nodes skipped warnings =
     (codes "{\"choices\":" ∷ choices
     ∷ codes ",\"exhausted\":" ∷ decimal counts.exhausted
     ∷ codes ",\"nodes\":" ∷ nodes
-    ∷ codes ",\"skipped\":" ∷ skipped
-    ∷ codes ",\"status\":\"plan\",\"visited\":" ∷ decimal counts.visited
-    ∷ codes ",\"warnings\":" ∷ warnings
-    ∷ codes "}" ∷ [])
+    ∷ end-with (codes "plan") counts skipped warnings (codes "}" ∷ []))
 
 gave-up-shape : (index : Index) (counts : Counts)
     → compact_text (gave_up_value index counts) ≡ gave-up-with counts (compact_text (list_of skipped_value index.skipped)) (compact_text (list_of warning_value index.warnings))
@@ -219,12 +205,6 @@ module _ (index : Index) where
 
 -- ---- whole numbers only, and a small depth
 
-skipped-deep : (index : Index) → depth (list_of skipped_value index.skipped) ≤ 1
-skipped-deep index = list-deep skipped_value 0 (λ file. omega arith) index.skipped
-
-warnings-deep : (index : Index) → depth (list_of warning_value index.warnings) ≤ 1
-warnings-deep index = list-deep warning_value 0 (λ warning. omega arith) index.warnings
-
 ids-deep : (node : PlanNode) → depth (ids_value node) ≤ 1
 ids-deep node = list-deep (λ id. string id) 0 (λ id. omega arith) (all_needs node)
 
@@ -241,6 +221,9 @@ module _ (index : Index) where
   warnings-whole : has_float (list_of warning_value index.warnings) ≡ false
   warnings-whole = list-whole warning_value (λ warning. refl) index.warnings
 
+  notes-deep : (depth (list_of skipped_value index.skipped) ≤ 1) × (depth (list_of warning_value index.warnings) ≤ 1)
+  notes-deep = (list-deep skipped_value 0 (λ file. omega arith) index.skipped, list-deep warning_value 0 (λ warning. omega arith) index.warnings)
+
   -- the lists that each answer has
   end-whole : (has_float (list_of skipped_value index.skipped) || (has_float (list_of warning_value index.warnings) || false)) ≡ false
   end-whole = or_from _ _ skipped-whole (or_from _ _ warnings-whole refl)
@@ -248,7 +231,7 @@ module _ (index : Index) where
   pub gave-up-plain : (counts : Counts) → IsPlain (gave_up_value index counts)
   gave-up-plain counts = record {
     no_float = end-whole;
-    shallow = let skipped = skipped-deep index in let warnings = warnings-deep index in omega (arith, skipped, warnings);
+    shallow = let notes = notes-deep in omega (arith, notes.0, notes.1);
   }
 
   module _ (names : NameTable) where
@@ -263,9 +246,8 @@ module _ (index : Index) where
       no_float = or_from _ _ (list-whole (variable_value names) (λ v. refl) set) end-whole;
       shallow =
           let conflict = variables-deep set in
-          let skipped = skipped-deep index in
-          let warnings = warnings-deep index in
-          omega (arith, conflict, skipped, warnings);
+          let notes = notes-deep in
+          omega (arith, conflict, notes.0, notes.1);
     }
 
     freed-whole : (freed : Var × List Choice) → has_float (without_value index names freed) ≡ false
@@ -283,9 +265,8 @@ module _ (index : Index) where
       shallow =
           let conflict = variables-deep set in
           let without = list-deep (without_value index names) 3 freed-deep (zip set maps) in
-          let skipped = skipped-deep index in
-          let warnings = warnings-deep index in
-          omega (arith, conflict, without, skipped, warnings);
+          let notes = notes-deep in
+          omega (arith, conflict, without, notes.0, notes.1);
     }
 
     pub not-shrunk-plain : (set : List Var) (spent : ℕ) (counts : Counts) → IsPlain (not_shrunk_value index names set spent counts)
@@ -293,9 +274,8 @@ module _ (index : Index) where
       no_float = or_from _ _ (list-whole (variable_value names) (λ v. refl) set) end-whole;
       shallow =
           let conflict = variables-deep set in
-          let skipped = skipped-deep index in
-          let warnings = warnings-deep index in
-          omega (arith, conflict, skipped, warnings);
+          let notes = notes-deep in
+          omega (arith, conflict, notes.0, notes.1);
     }
 
     pub plan-plain : (trail : List Choice) (nodes : List PlanNode) (counts : Counts) → IsPlain (plan_value index names trail nodes counts)
@@ -305,7 +285,6 @@ module _ (index : Index) where
       shallow =
           let choices = choices-deep trail in
           let told = list-deep node_value 2 node-deep nodes in
-          let skipped = skipped-deep index in
-          let warnings = warnings-deep index in
-          omega (arith, choices, told, skipped, warnings);
+          let notes = notes-deep in
+          omega (arith, choices, told, notes.0, notes.1);
     }

@@ -3,7 +3,7 @@ use Rattle.std.specs.Prelude.{◌≡◌, refl, true, [], ◌∷◌, ◌++◌, co
 use Rattle.std.specs.Fmt.{digits}
 use Rattle.json.specs.Print.{escape_byte, quoted}
 use Rattle.plan_types.specs.declared.refusal.Cause.TheVariants.{BadName}
-use Rattle.plan_nodes.specs.declared.node.NodeKind.TheVariants.{Store}
+use Rattle.plan_nodes.specs.Line.{no_line}
 use Rattle.plan_json.specs.Texts.{gave_up_json, list_text, node_json}
 
 -- a quote, a backslash and control bytes are escaped
@@ -16,8 +16,7 @@ unfolding escape_byte
 commas = refl
 
 -- needed identifiers in byte order, each once
-node : node_json (record {
-  kind = Store;
+node : node_json (record no_line {
   name = codes "q";
   version = record { parts = 1 ∷ 20 ∷ [] };
   component = codes "lib";
@@ -25,7 +24,6 @@ node : node_json (record {
   unbuildable = true;
   libs = codes "base-4" ∷ codes "alex-3" ∷ [];
   tools = codes "alex-3" ∷ [];
-  setups = [];
 })
     ≡ codes "{\"component\":\"lib\",\"id\":\"q-1.20-0a\",\"kind\":\"store\",\"needs\":[\"alex-3\",\"base-4\"],\"package\":\"q-1.20\",\"unbuildable\":true}"
 unfolding digits escape_byte

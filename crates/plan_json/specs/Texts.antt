@@ -66,6 +66,16 @@ node_json node =
     ∷ codes ",\"unbuildable\":" ∷ truth_text node.unbuildable
     ∷ codes "}" ∷ [])
 
+-- the members that each answer has behind the others, up to the rest: the notes on the index, the status and the
+-- visited points
+abbrev pub end_json : List ℕ → Index → Counts → List (List ℕ) → List (List ℕ)
+end_json status index counts rest =
+    codes ",\"skipped\":" ∷ list_text skipped_json index.skipped
+    ∷ codes ",\"status\":\"" ∷ status
+    ∷ codes "\",\"visited\":" ∷ decimal counts.visited
+    ∷ codes ",\"warnings\":" ∷ list_text warning_json index.warnings
+    ∷ rest
+
 -- a plan: its choices and nodes in their order
 abbrev pub plan_json : Index → NameTable → List Choice → List PlanNode → Counts → List ℕ
 plan_json index names trail nodes counts =
@@ -74,10 +84,7 @@ plan_json index names trail nodes counts =
     (codes "{\"choices\":" ∷ list_text (choice_json index names) trail
     ∷ codes ",\"exhausted\":" ∷ decimal counts.exhausted
     ∷ codes ",\"nodes\":" ∷ list_text node_json nodes
-    ∷ codes ",\"skipped\":" ∷ list_text skipped_json index.skipped
-    ∷ codes ",\"status\":\"plan\",\"visited\":" ∷ decimal counts.visited
-    ∷ codes ",\"warnings\":" ∷ list_text warning_json index.warnings
-    ∷ codes "}" ∷ []))
+    ∷ end_json (codes "plan") index counts (codes "}" ∷ [])))
 
 -- a conflict: its set
 abbrev pub conflict_json : Index → NameTable → List Var → Counts → List ℕ
@@ -86,10 +93,7 @@ conflict_json index names set counts =
     (concat
     (codes "{\"conflict\":" ∷ list_text (variable_json names) set
     ∷ codes ",\"exhausted\":" ∷ decimal counts.exhausted
-    ∷ codes ",\"skipped\":" ∷ list_text skipped_json index.skipped
-    ∷ codes ",\"status\":\"no plan\",\"visited\":" ∷ decimal counts.visited
-    ∷ codes ",\"warnings\":" ∷ list_text warning_json index.warnings
-    ∷ codes "}" ∷ []))
+    ∷ end_json (codes "no plan") index counts (codes "}" ∷ [])))
 
 -- a variable of a shrunk set, and the choices that hold without it
 abbrev pub without_json : Index → NameTable → Var × List Choice → List ℕ
@@ -106,11 +110,7 @@ shrunk_json index names set maps counts =
     (concat
     (codes "{\"conflict\":" ∷ list_text (variable_json names) set
     ∷ codes ",\"exhausted\":" ∷ decimal counts.exhausted
-    ∷ codes ",\"skipped\":" ∷ list_text skipped_json index.skipped
-    ∷ codes ",\"status\":\"no plan\",\"visited\":" ∷ decimal counts.visited
-    ∷ codes ",\"warnings\":" ∷ list_text warning_json index.warnings
-    ∷ codes ",\"without\":" ∷ list_text (without_json index names) (zip set maps)
-    ∷ codes "}" ∷ []))
+    ∷ end_json (codes "no plan") index counts (codes ",\"without\":" ∷ list_text (without_json index names) (zip set maps) ∷ codes "}" ∷ [])))
 
 -- a conflict whose shrinking stopped after so many exhausted points
 abbrev pub not_shrunk_json : Index → NameTable → List Var → ℕ → Counts → List ℕ
@@ -120,10 +120,7 @@ not_shrunk_json index names set spent counts =
     (codes "{\"conflict\":" ∷ list_text (variable_json names) set
     ∷ codes ",\"exhausted\":" ∷ decimal counts.exhausted
     ∷ codes ",\"not_minimised\":" ∷ decimal spent
-    ∷ codes ",\"skipped\":" ∷ list_text skipped_json index.skipped
-    ∷ codes ",\"status\":\"no plan\",\"visited\":" ∷ decimal counts.visited
-    ∷ codes ",\"warnings\":" ∷ list_text warning_json index.warnings
-    ∷ codes "}" ∷ []))
+    ∷ end_json (codes "no plan") index counts (codes "}" ∷ [])))
 
 -- a search that reached its limit
 abbrev pub gave_up_json : Index → Counts → List ℕ
@@ -131,7 +128,4 @@ gave_up_json index counts =
     line
     (concat
     (codes "{\"exhausted\":" ∷ decimal counts.exhausted
-    ∷ codes ",\"skipped\":" ∷ list_text skipped_json index.skipped
-    ∷ codes ",\"status\":\"gave up\",\"visited\":" ∷ decimal counts.visited
-    ∷ codes ",\"warnings\":" ∷ list_text warning_json index.warnings
-    ∷ codes "}" ∷ []))
+    ∷ end_json (codes "gave up") index counts (codes "}" ∷ [])))

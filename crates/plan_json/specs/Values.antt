@@ -60,6 +60,15 @@ with_common_members head index counts members =
     (put (codes "visited") (number (unsigned counts.visited))
     (put (codes "warnings") (list_of warning_value index.warnings) members))))
 
+-- the members that each answer has behind the others, up to the rest: the notes on the index, the status and the
+-- visited points
+abbrev pub end_members : List ℕ → Index → Counts → Members → Members
+end_members status index counts rest =
+    member (codes "skipped") (list_of skipped_value index.skipped)
+    (member (codes "status") (string status)
+    (member (codes "visited") (number (unsigned counts.visited))
+    (member (codes "warnings") (list_of warning_value index.warnings) rest)))
+
 -- a plan
 abbrev pub plan_value : Index → NameTable → List Choice → List PlanNode → Counts → Data
 plan_value index names trail nodes counts =
@@ -67,10 +76,7 @@ plan_value index names trail nodes counts =
     (member (codes "choices") (list_of (choice_value index names) trail)
     (member (codes "exhausted") (number (unsigned counts.exhausted))
     (member (codes "nodes") (list_of node_value nodes)
-    (member (codes "skipped") (list_of skipped_value index.skipped)
-    (member (codes "status") (string (codes "plan"))
-    (member (codes "visited") (number (unsigned counts.visited))
-    (member (codes "warnings") (list_of warning_value index.warnings) no_members)))))))
+    (end_members (codes "plan") index counts no_members))))
 
 -- a conflict: its set
 abbrev pub conflict_value : Index → NameTable → List Var → Counts → Data
@@ -78,10 +84,7 @@ conflict_value index names set counts =
     object
     (member (codes "conflict") (list_of (variable_value names) set)
     (member (codes "exhausted") (number (unsigned counts.exhausted))
-    (member (codes "skipped") (list_of skipped_value index.skipped)
-    (member (codes "status") (string (codes "no plan"))
-    (member (codes "visited") (number (unsigned counts.visited))
-    (member (codes "warnings") (list_of warning_value index.warnings) no_members))))))
+    (end_members (codes "no plan") index counts no_members)))
 
 -- a variable of a shrunk set, and the choices that hold without it
 abbrev pub without_value : Index → NameTable → Var × List Choice → Data
@@ -94,11 +97,7 @@ shrunk_value index names set maps counts =
     object
     (member (codes "conflict") (list_of (variable_value names) set)
     (member (codes "exhausted") (number (unsigned counts.exhausted))
-    (member (codes "skipped") (list_of skipped_value index.skipped)
-    (member (codes "status") (string (codes "no plan"))
-    (member (codes "visited") (number (unsigned counts.visited))
-    (member (codes "warnings") (list_of warning_value index.warnings)
-    (member (codes "without") (list_of (without_value index names) (zip set maps)) no_members)))))))
+    (end_members (codes "no plan") index counts (member (codes "without") (list_of (without_value index names) (zip set maps)) no_members))))
 
 -- a conflict whose shrinking stopped after so many exhausted points
 abbrev pub not_shrunk_value : Index → NameTable → List Var → ℕ → Counts → Data
@@ -107,17 +106,11 @@ not_shrunk_value index names set spent counts =
     (member (codes "conflict") (list_of (variable_value names) set)
     (member (codes "exhausted") (number (unsigned counts.exhausted))
     (member (codes "not_minimised") (number (unsigned spent))
-    (member (codes "skipped") (list_of skipped_value index.skipped)
-    (member (codes "status") (string (codes "no plan"))
-    (member (codes "visited") (number (unsigned counts.visited))
-    (member (codes "warnings") (list_of warning_value index.warnings) no_members)))))))
+    (end_members (codes "no plan") index counts no_members))))
 
 -- a search that reached its limit
 abbrev pub gave_up_value : Index → Counts → Data
 gave_up_value index counts =
     object
     (member (codes "exhausted") (number (unsigned counts.exhausted))
-    (member (codes "skipped") (list_of skipped_value index.skipped)
-    (member (codes "status") (string (codes "gave up"))
-    (member (codes "visited") (number (unsigned counts.visited))
-    (member (codes "warnings") (list_of warning_value index.warnings) no_members)))))
+    (end_members (codes "gave up") index counts no_members))

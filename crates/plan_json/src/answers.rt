@@ -101,7 +101,7 @@ fn plan_value(
     let mut members = Map::new(alloc);
     put(&mut members, alloc, "choices", choices)?;
     put(&mut members, alloc, "nodes", nodes)?;
-    put_end(&mut members, alloc, "plan", index, counts)?;
+    put_end(alloc, &mut members, "plan", index, counts)?;
     Ok(Value::from(members))
 }
 
@@ -117,7 +117,7 @@ fn conflict_value(
     let conflict = variable_list(alloc, set.vars(), names)?;
     let mut members = Map::new(alloc);
     put(&mut members, alloc, "conflict", conflict)?;
-    put_end(&mut members, alloc, "no plan", index, counts)?;
+    put_end(alloc, &mut members, "no plan", index, counts)?;
     Ok(Value::from(members))
 }
 
@@ -136,7 +136,7 @@ fn shrunk_value(
     let mut members = Map::new(alloc);
     put(&mut members, alloc, "without", without)?;
     put(&mut members, alloc, "conflict", conflict)?;
-    put_end(&mut members, alloc, "no plan", index, counts)?;
+    put_end(alloc, &mut members, "no plan", index, counts)?;
     Ok(Value::from(members))
 }
 
@@ -154,7 +154,7 @@ fn not_shrunk_value(
     let mut members = Map::new(alloc);
     put(&mut members, alloc, "not_minimised", Value::from(spent))?;
     put(&mut members, alloc, "conflict", conflict)?;
-    put_end(&mut members, alloc, "no plan", index, counts)?;
+    put_end(alloc, &mut members, "no plan", index, counts)?;
     Ok(Value::from(members))
 }
 
@@ -162,14 +162,14 @@ fn gave_up_value(alloc: Global, index: &Index, counts: Counts) -> Result<Value, 
     ensures { IfOk result (λ value. view value ≡ gave_up_value index.now counts) }
 {
     let mut members = Map::new(alloc);
-    put_end(&mut members, alloc, "gave up", index, counts)?;
+    put_end(alloc, &mut members, "gave up", index, counts)?;
     Ok(Value::from(members))
 }
 
 // Adds the members that each answer has: its status, the notes on the index, and the counts of the search.
 fn put_end(
-    members: &mut Map<String, Value>,
     alloc: Global,
+    members: &mut Map<String, Value>,
     head: &str,
     index: &Index,
     counts: Counts,

@@ -1,15 +1,11 @@
 // The lists of an answer: choices, nodes, variables and notes.
-ghost use Rattle.std.specs.Prelude.{◌≡◌, ◌∷◌, ◌++◌, [], IfOk, OnOk, map, fold, zip};
-ghost use Rattle.std.specs.BTreeSet.{insert_key};
-ghost use Rattle.std.specs.Cmp.Lexicographic.{slice_cmp};
-ghost use Rattle.std.specs.Ordering.{nat_cmp};
+ghost use Rattle.std.specs.Prelude.{◌≡◌, ◌∷◌, ◌++◌, [], IfOk, OnOk, map, zip};
 ghost use Rattle.serde_json.specs.Data.{put as with_member, string};
 ghost use Rattle.serde_json.specs.View.{members_view, view};
-ghost use Rattle.plan_nodes.specs.Line.{kind_word};
 ghost use Rattle.plan_json.specs.Values.{choice_value, without_value, ids_value, list_of, node_value, skipped_value, variable_value, warning_value};
 
 use choice_problem::{Choice, Var};
-use plan_nodes::{NodeKind, PlanNode, package_text};
+use plan_nodes::{PlanNode, all_needs, package_text};
 use plan_print::{skipped_note, value_text, warning_note};
 use plan_types::{Index, List, NoMemory, Skipped, Text, Warning};
 use qualified_goals::Names;
@@ -144,7 +140,7 @@ fn node_value(alloc: Global, node: &PlanNode) -> Result<Value, NoMemory>
     let mut members = Map::new(alloc);
     put_text(&mut members, alloc, "component", node.component.as_str())?;
     put_text(&mut members, alloc, "id", node.id.as_str())?;
-    put_text(&mut members, alloc, "kind", kind_word(node.kind))?;
+    put_text(&mut members, alloc, "kind", node.kind.word())?;
     put(&mut members, alloc, "needs", needs)?;
     put_text(&mut members, alloc, "package", package.as_str())?;
     put(
@@ -170,34 +166,12 @@ fn put_text(
     Ok(())
 }
 
-fn kind_word<'a>(kind: NodeKind) -> &'a str
-    ensures { result.now ≡ kind_word kind }
-{
-    match kind {
-        NodeKind::Installed => "installed",
-        NodeKind::Local => "local",
-        NodeKind::Store => "store",
-    }
-}
-
 // The identifiers of all that a node needs.
 fn need_list(alloc: Global, node: &PlanNode) -> Result<Value, NoMemory>
     ensures { IfOk result (λ value. view value ≡ ids_value node.now) }
 {
-    let mut ids = BTreeSet::new(alloc);
-    add_ids(&mut ids, node.libs.as_slice())?;
-    add_ids(&mut ids, node.tools.as_slice())?;
-    add_ids(&mut ids, node.setups.as_slice())?;
+    let ids = all_needs(alloc, node)?;
     id_values(alloc, &ids)
-}
-
-fn add_ids(ids: &mut BTreeSet<Text>, more: &[Text]) -> Result<(), NoMemory>
-    ensures { OnOk result (ids.new.keys ≡ fold (insert_key (slice_cmp nat_cmp)) ids.old.keys more.now) }
-{
-    for id in more {
-        ids.insert(id.copy()?)?;
-    }
-    Ok(())
 }
 
 fn id_values(alloc: Global, ids: &BTreeSet<Text>) -> Result<Value, NoMemory>
