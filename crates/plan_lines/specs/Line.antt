@@ -48,17 +48,7 @@ id_by kind.Store line d flags env = id_of line d flags env
 
 -- a line with an identifier
 abbrev pub with_id : List ℕ → PlanNode → PlanNode
-with_id id line = record {
-  kind = line.kind;
-  name = line.name;
-  version = line.version;
-  component = line.component;
-  id = id;
-  unbuildable = line.unbuildable;
-  libs = line.libs;
-  tools = line.tools;
-  setups = line.setups;
-}
+with_id id line = record line { id = id }
 
 -- ---- lines
 
