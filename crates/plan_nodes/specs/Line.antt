@@ -3,6 +3,7 @@ use Rattle.std.specs.Prelude.{ℕ, Bool, true, false, List, [], ◌∷◌, ◌++
 use Rattle.std.specs.BTreeSet.{insert_key}
 use Rattle.std.specs.Cmp.Lexicographic.{slice_cmp}
 use Rattle.std.specs.Ordering.{nat_cmp}
+use Rattle.plan_types.specs.declared.version.Version.{Version}
 use Rattle.version_range.specs.Version.{version_text}
 use Rattle.plan_nodes.specs.declared.node.NodeKind.{NodeKind}
 use Rattle.plan_nodes.specs.declared.node.NodeKind.TheVariants.{Installed, Local, Store}
@@ -22,9 +23,13 @@ kind_word Installed = codes "installed"
 kind_word Local = codes "local"
 kind_word Store = codes "store"
 
+-- a name, a dash and a version
+abbrev pub name_and_version : List ℕ → Version → List ℕ
+name_and_version name version = name ++ codes "-" ++ version_text version.parts
+
 -- a package and its version
 abbrev pub package_text : PlanNode → List ℕ
-package_text node = node.name ++ codes "-" ++ version_text node.version.parts
+package_text node = name_and_version node.name node.version
 
 -- a word for an unbuildable node
 abbrev pub unbuildable_text : Bool → List ℕ

@@ -6,6 +6,6 @@ mod line;
 mod node;
 mod once;
 
-pub use line::{node_line, package_text};
+pub use line::{all_needs, name_and_version, node_line, package_text};
 pub use node::{NodeKind, PlanNode};
 pub use once::each_line_once;

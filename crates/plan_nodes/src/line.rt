@@ -3,10 +3,10 @@ ghost use Rattle.std.specs.Prelude.{◌≡◌, ◌++◌, [], IfOk, OnOk, flat_ma
 ghost use Rattle.std.specs.BTreeSet.{insert_key};
 ghost use Rattle.std.specs.Cmp.Lexicographic.{slice_cmp};
 ghost use Rattle.std.specs.Ordering.{nat_cmp};
-ghost use Rattle.plan_nodes.specs.Line.{all_needs, behind_blank, head_text, kind_word, needs_text, node_line, package_text, unbuildable_text};
+ghost use Rattle.plan_nodes.specs.Line.{all_needs, behind_blank, head_text, name_and_version, needs_text, node_line, package_text, unbuildable_text};
 
-use crate::node::{NodeKind, PlanNode};
-use plan_types::{NoMemory, Text};
+use crate::node::PlanNode;
+use plan_types::{NoMemory, Text, Version};
 use std::alloc::Global;
 use std::collections::BTreeSet;
 use version_range::print_version;
@@ -26,8 +26,15 @@ pub fn node_line(alloc: Global, node: &PlanNode) -> Result<Text, NoMemory>
 pub fn package_text(alloc: Global, node: &PlanNode) -> Result<Text, NoMemory>
     ensures { IfOk result (λ text. text ≡ package_text node.now) }
 {
-    let mut text = node.name.copy()?;
-    let version = print_version(alloc, &node.version)?;
+    name_and_version(alloc, &node.name, &node.version)
+}
+
+/// A name, a dash and a version.
+pub fn name_and_version(alloc: Global, name: &Text, version: &Version) -> Result<Text, NoMemory>
+    ensures { IfOk result (λ text. text ≡ name_and_version name.now version.now) }
+{
+    let mut text = name.copy()?;
+    let version = print_version(alloc, version)?;
     text.push_str("-")?;
     text.push_str(version.as_str())?;
     Ok(text)
@@ -39,7 +46,7 @@ fn head_text(alloc: Global, node: &PlanNode) -> Result<Text, NoMemory>
 {
     let package = package_text(alloc, node)?;
     let mut text = Text::from_str(alloc, "node ")?;
-    text.push_str(kind_word(node.kind))?;
+    text.push_str(node.kind.word())?;
     push_word(&mut text, package.as_str())?;
     push_word(&mut text, node.component.as_str())?;
     push_word(&mut text, node.id.as_str())?;
@@ -53,31 +60,28 @@ fn push_word(text: &mut Text, word: &str) -> Result<(), NoMemory>
     text.push_str(word)
 }
 
-fn kind_word(kind: NodeKind) -> &'static str
-    ensures { result.now ≡ kind_word kind }
-{
-    match kind {
-        NodeKind::Installed => "installed",
-        NodeKind::Local => "local",
-        NodeKind::Store => "store",
-    }
-}
-
 fn unbuildable_text(unbuildable: bool) -> &'static str
     ensures { result.now ≡ unbuildable_text unbuildable }
 {
     if unbuildable { " unbuildable" } else { "" }
 }
 
-// The identifiers of all needs of a node.
 fn push_needs(alloc: Global, text: &mut Text, node: &PlanNode) -> Result<(), NoMemory>
     ensures { OnOk result (text.new ≡ text.old ++ needs_text (all_needs node.now)) }
+{
+    let ids = all_needs(alloc, node)?;
+    push_ids(text, &ids)
+}
+
+/// The identifiers of all needs of a node, in byte order.
+pub fn all_needs(alloc: Global, node: &PlanNode) -> Result<BTreeSet<Text>, NoMemory>
+    ensures { IfOk result (λ ids. ids.keys ≡ all_needs node.now) }
 {
     let mut ids = BTreeSet::new(alloc);
     add_ids(&mut ids, node.libs.as_slice())?;
     add_ids(&mut ids, node.tools.as_slice())?;
     add_ids(&mut ids, node.setups.as_slice())?;
-    push_ids(text, &ids)
+    Ok(ids)
 }
 
 fn add_ids(ids: &mut BTreeSet<Text>, more: &[Text]) -> Result<(), NoMemory>

@@ -1,6 +1,8 @@
 // A node: a component with its identifier and the identifiers of its needs.
+ghost use Rattle.std.specs.Prelude.{◌≡◌};
+ghost use Rattle.plan_nodes.specs.Line.{kind_word};
 
-use plan_types::{List, Text, Version};
+use plan_types::{List, Text, Version, drop_fields};
 
 /// Whether a node is installed, and where it is built otherwise.
 #[derive(Clone, Copy, Debug, PartialEq, Eq)]
@@ -11,6 +13,19 @@ pub enum NodeKind {
     Local,
     /// Any other component, built into the store.
     Store,
+}
+
+impl NodeKind {
+    /// The printed word of the kind.
+    pub fn word(self) -> &'static str
+        ensures { result.now ≡ kind_word self }
+    {
+        match self {
+            NodeKind::Installed => "installed",
+            NodeKind::Local => "local",
+            NodeKind::Store => "store",
+        }
+    }
 }
 
 /// A component of a plan. Each list of needs has identifiers in byte order, each once.
@@ -30,19 +45,8 @@ pub struct PlanNode {
     pub setups: List<Text>,
 }
 
-// Explicit, so that it is proved once: a derived one is expanded at each exit.
 impl Drop for PlanNode {
     fn drop(self) {
-        let PlanNode {
-            kind: _kind,
-            name: _name,
-            version: _version,
-            component: _component,
-            id: _id,
-            unbuildable: _unbuildable,
-            libs: _libs,
-            tools: _tools,
-            setups: _setups,
-        } = self;
+        drop_fields!(self; kind, name, version, component, id, unbuildable, libs, tools, setups);
     }
 }

@@ -47,7 +47,10 @@ fn keep(
 {
     match seen {
         Seen::Ids(ids) => keep_by_id(alloc, ids, kept, node),
-        Seen::Lines(lines) => keep_by_line(alloc, lines, kept, node),
+        Seen::Lines(lines) => {
+            let lines = keep_by_line(alloc, lines, kept, node)?;
+            Ok(Seen::Lines(lines))
+        }
     }
 }
 
@@ -70,27 +73,29 @@ fn keep_by_id(
         }
         None => {
             let lines = lines_of(alloc, kept.as_slice())?;
-            keep_by_line(alloc, lines, kept, node)
+            let lines = keep_by_line(alloc, lines, kept, node)?;
+            Ok(Seen::Lines(lines))
         }
     }
 }
 
 fn keep_by_line(
     alloc: Global,
-    mut lines: IndexSet<Text>,
+    lines: IndexSet<Text>,
     kept: &mut List<PlanNode>,
     node: PlanNode,
-) -> Result<Seen, NoMemory>
+) -> Result<IndexSet<Text>, NoMemory>
     requires { AreLines lines.keys kept.old }
-    ensures seen { IfOk result (λ after. Knows after kept.new) }
+    ensures lines { IfOk result (λ lines. AreLines lines.keys kept.new) }
     ensures kept { OnOk result (kept.new ≡ insert_key same_line kept.old node) }
 {
+    let mut lines = lines;
     let line = node_line(alloc, &node)?;
     if !lines.contains(&line) {
         lines.insert(line)?;
         kept.push(node)?;
     }
-    Ok(Seen::Lines(lines))
+    Ok(lines)
 }
 
 // Whether a node's line was printed before, if the identifiers tell.
