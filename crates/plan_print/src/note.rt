@@ -1,6 +1,6 @@
 // The notes on an index, in lines.
 ghost use Rattle.std.specs.Prelude.{◌≡◌, ◌++◌, IfOk, OnOk, flat_map};
-ghost use Rattle.plan_print.specs.Note.{skipped_line, skipped_note, warning_line, warning_note, notes_text};
+ghost use Rattle.plan_print.specs.Note.{note_line, note_text, notes_text, skipped_line, skipped_note, warning_line, warning_note};
 
 use crate::cause::cause_name;
 use crate::place::push_where;
@@ -19,8 +19,9 @@ pub fn push_notes(alloc: Global, text: &mut Text, index: &Index) -> Result<(), N
 pub fn skipped_note(alloc: Global, file: &Skipped) -> Result<Text, NoMemory>
     ensures { IfOk result (λ note. note ≡ skipped_note file.now) }
 {
+    let cause = cause_name(file.cause);
     let mut note = Text::new(alloc);
-    push_skipped_note(alloc, &mut note, file)?;
+    push_note(alloc, &mut note, &file.path, file.line, cause)?;
     Ok(note)
 }
 
@@ -28,8 +29,9 @@ pub fn skipped_note(alloc: Global, file: &Skipped) -> Result<Text, NoMemory>
 pub fn warning_note(alloc: Global, warning: &Warning) -> Result<Text, NoMemory>
     ensures { IfOk result (λ note. note ≡ warning_note warning.now) }
 {
+    let word = warning.word.as_str();
     let mut note = Text::new(alloc);
-    push_warning_note(alloc, &mut note, warning)?;
+    push_note(alloc, &mut note, &warning.path, warning.line, word)?;
     Ok(note)
 }
 
@@ -37,48 +39,47 @@ fn push_skipped_lines(alloc: Global, text: &mut Text, skipped: &[Skipped]) -> Re
     ensures { OnOk result (text.new ≡ text.old ++ flat_map skipped_line skipped.now) }
 {
     for file in skipped {
-        push_skipped(alloc, text, file)?;
+        let cause = cause_name(file.cause);
+        push_note_line(alloc, text, "skipped ", &file.path, file.line, cause)?;
     }
     Ok(())
-}
-
-fn push_skipped(alloc: Global, text: &mut Text, file: &Skipped) -> Result<(), NoMemory>
-    ensures { OnOk result (text.new ≡ text.old ++ skipped_line file.now) }
-{
-    text.push_str("skipped ")?;
-    push_skipped_note(alloc, text, file)?;
-    text.push_str("\n")
-}
-
-fn push_skipped_note(alloc: Global, text: &mut Text, file: &Skipped) -> Result<(), NoMemory>
-    ensures { OnOk result (text.new ≡ text.old ++ skipped_note file.now) }
-{
-    push_where(alloc, text, file.path.as_str(), file.line)?;
-    text.push_str(" ")?;
-    text.push_str(cause_name(file.cause))
 }
 
 fn push_warning_lines(alloc: Global, text: &mut Text, warnings: &[Warning]) -> Result<(), NoMemory>
     ensures { OnOk result (text.new ≡ text.old ++ flat_map warning_line warnings.now) }
 {
     for warning in warnings {
-        push_warning(alloc, text, warning)?;
+        let word = warning.word.as_str();
+        push_note_line(alloc, text, "warning ", &warning.path, warning.line, word)?;
     }
     Ok(())
 }
 
-fn push_warning(alloc: Global, text: &mut Text, warning: &Warning) -> Result<(), NoMemory>
-    ensures { OnOk result (text.new ≡ text.old ++ warning_line warning.now) }
+fn push_note_line(
+    alloc: Global,
+    text: &mut Text,
+    kind: &str,
+    path: &Text,
+    line: u32,
+    word: &str,
+) -> Result<(), NoMemory>
+    ensures { OnOk result (text.new ≡ text.old ++ note_line kind.now path.now line word.now) }
 {
-    text.push_str("warning ")?;
-    push_warning_note(alloc, text, warning)?;
+    text.push_str(kind)?;
+    push_note(alloc, text, path, line, word)?;
     text.push_str("\n")
 }
 
-fn push_warning_note(alloc: Global, text: &mut Text, warning: &Warning) -> Result<(), NoMemory>
-    ensures { OnOk result (text.new ≡ text.old ++ warning_note warning.now) }
+fn push_note(
+    alloc: Global,
+    text: &mut Text,
+    path: &Text,
+    line: u32,
+    word: &str,
+) -> Result<(), NoMemory>
+    ensures { OnOk result (text.new ≡ text.old ++ note_text path.now line word.now) }
 {
-    push_where(alloc, text, warning.path.as_str(), warning.line)?;
+    push_where(alloc, text, path.as_str(), line)?;
     text.push_str(" ")?;
-    text.push_str(warning.word.as_str())
+    text.push_str(word)
 }

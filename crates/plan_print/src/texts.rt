@@ -1,7 +1,7 @@
 // The texts of answers.
 ghost use Rattle.std.specs.Prelude.{◌≡◌, ◌++◌, IfOk, OnOk, flat_map, zip};
 ghost use Rattle.plan_nodes.specs.Line.{node_line};
-ghost use Rattle.plan_print.specs.Choice.{choice_line, keep_line};
+ghost use Rattle.plan_print.specs.Choice.{line_of};
 ghost use Rattle.plan_print.specs.Texts.{named_var, conflict_line, counts_line, plan_text, conflict_text, without_lines, gave_up_text, detail_text, not_shrunk_text, refusal_text, shrunk_text, spent_line};
 
 use crate::cause::cause_name;
@@ -27,7 +27,7 @@ pub fn text_of_plan(
 {
     let mut text = Text::from_str(alloc, "plan\n")?;
     push_notes(alloc, &mut text, index)?;
-    push_trail(alloc, &mut text, trail.as_slice(), index, names)?;
+    push_choices(alloc, &mut text, "choose", trail.as_slice(), index, names)?;
     push_nodes(alloc, &mut text, nodes.as_slice())?;
     push_counts(alloc, &mut text, counts)?;
     Ok(text)
@@ -111,17 +111,19 @@ pub fn text_of_refusal(alloc: Global, refusal: &Refusal) -> Result<Text, NoMemor
     Ok(text)
 }
 
-fn push_trail(
+// Appends the line of each choice, which begins with this word.
+fn push_choices(
     alloc: Global,
     text: &mut Text,
-    trail: &[Choice],
+    word: &str,
+    choices: &[Choice],
     index: &Index,
     names: &Names,
 ) -> Result<(), NoMemory>
-    ensures { OnOk result (text.new ≡ text.old ++ flat_map (choice_line index.now names.now) trail.now) }
+    ensures { OnOk result (text.new ≡ text.old ++ flat_map (line_of word.now index.now names.now) choices.now) }
 {
-    for choice in trail {
-        push_choice(alloc, text, "choose", *choice, index, names)?;
+    for choice in choices {
+        push_choice(alloc, text, word, *choice, index, names)?;
     }
     Ok(())
 }
@@ -161,22 +163,7 @@ fn push_freed_var(
     text.push_str("without")?;
     push_var(alloc, text, var, names)?;
     text.push_str("\n")?;
-    push_kept(alloc, text, kept, index, names)
-}
-
-fn push_kept(
-    alloc: Global,
-    text: &mut Text,
-    kept: &[Choice],
-    index: &Index,
-    names: &Names,
-) -> Result<(), NoMemory>
-    ensures { OnOk result (text.new ≡ text.old ++ flat_map (keep_line index.now names.now) kept.now) }
-{
-    for choice in kept {
-        push_choice(alloc, text, "keep", *choice, index, names)?;
-    }
-    Ok(())
+    push_choices(alloc, text, "keep", kept, index, names)
 }
 
 fn push_nodes(alloc: Global, text: &mut Text, nodes: &[PlanNode]) -> Result<(), NoMemory>

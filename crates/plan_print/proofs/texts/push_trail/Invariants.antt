@@ -1,8 +1,0 @@
--- the lines so far
-use Rattle.std.proofs.Common.{◌≡◌, ◌++◌, take}
-use Rattle.std.specs.List.{flat_map}
-use Rattle.plan_print.specs.Choice.{choice_line}
-use Rattle.plan_print.proofs.texts.push_trail.Given as goal
-
-abbrev pub invariant-loop-choice : goal.invariant-loop-choice
-invariant-loop-choice l = l.text ≡ l.fn.text ++ flat_map (choice_line l.index l.names) (take l.choice-index l.trail)
