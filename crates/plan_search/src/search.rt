@@ -14,7 +14,7 @@ use backjump::search;
 use cabal_problem::{CabalProblem, valid_as_whole};
 use choice_problem::{Choices, Limit, Outcome, Steps};
 use count_search::count_search;
-use plan_types::{Index, NoMemory, Settings};
+use plan_types::{Index, NoMemory, Settings, drop_fields};
 use qualified_goals::Names;
 use std::alloc::Global;
 use std::marker::Brand;
@@ -37,14 +37,9 @@ pub struct Finding {
     pub blame: Blame,
 }
 
-// Explicit, so that it is proved once: a derived one is expanded at each exit.
 impl Drop for Finding {
     fn drop(self) {
-        let Finding {
-            names: _names,
-            outcome: _outcome,
-            blame: _blame,
-        } = self;
+        drop_fields!(self; names, outcome, blame);
     }
 }
 
