@@ -2,7 +2,7 @@
 ghost use Rattle.std.specs.Prelude.{◌≡◌, All, Some, slice_get};
 ghost use Rattle.plan_types.specs.Guarded.{AreTabled, build, in_groups};
 
-use crate::{Cond, Conditions, Dep, Guard, List, Shared, Spec, Text, Version};
+use crate::{Cond, Conditions, Dep, Guard, List, Shared, Spec, Text, Version, drop_fields};
 use std::marker::Model;
 
 /// The kind of a component.
@@ -110,16 +110,9 @@ pub struct Component {
     pub build: BuildInfo,
 }
 
-// Explicit, so that it is proved once: a derived one is expanded at each exit.
 impl Drop for Component {
     fn drop(self) {
-        let Component {
-            line: _line,
-            kind: _kind,
-            name: _name,
-            public: _public,
-            build: _build,
-        } = self;
+        drop_fields!(self; line, kind, name, public, build);
     }
 }
 
@@ -154,19 +147,8 @@ pub struct Description {
     pub warnings: List<u32>,
 }
 
-// Explicit, so that it is proved once: a derived one is expanded at each exit.
 impl Drop for Description {
     fn drop(self) {
-        let Description {
-            spec: _spec,
-            name: _name,
-            version: _version,
-            custom: _custom,
-            flags: _flags,
-            components: _components,
-            setup: _setup,
-            digest: _digest,
-            warnings: _warnings,
-        } = self;
+        drop_fields!(self; spec, name, version, custom, flags, components, setup, digest, warnings);
     }
 }

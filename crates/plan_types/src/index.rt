@@ -1,7 +1,7 @@
 // The packages from which a plan is made.
 ghost use Rattle.std.specs.Prelude.{◌≡◌};
 
-use crate::{Cause, Dep, Description, FlagDecl, LibName, List, Shared, Text, Version};
+use crate::{Cause, Dep, Description, FlagDecl, LibName, List, Shared, Text, Version, drop_fields};
 
 /// A part of a package that is on or off.
 #[derive(Debug, PartialEq, Eq, Drop)]
@@ -41,14 +41,9 @@ pub struct Source {
     pub exposed: Exposed,
 }
 
-// Explicit, so that it is proved once: a derived one is expanded at each exit.
 impl Drop for Source {
     fn drop(self) {
-        let Source {
-            description: _description,
-            flat: _flat,
-            exposed: _exposed,
-        } = self;
+        drop_fields!(self; description, flat, exposed);
     }
 }
 

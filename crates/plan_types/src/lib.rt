@@ -7,6 +7,7 @@ mod conditions;
 mod constraint;
 mod dependency;
 mod description;
+mod drop_fields;
 mod element;
 mod guard;
 mod index;

@@ -1,5 +1,5 @@
 // A project and the settings of a plan.
-use crate::{Constraint, Env, Limit, List, Named, Relax, Text, Warning};
+use crate::{Constraint, Env, Limit, List, Named, Relax, Text, Warning, drop_fields};
 
 /// An entry of `packages` or `optional-packages`: where to look for local packages.
 #[derive(Debug, PartialEq, Eq, Drop)]
@@ -31,23 +31,9 @@ pub struct Project {
     pub warnings: List<Warning>,
 }
 
-// Explicit, so that it is proved once: a derived one is expanded at each exit.
 impl Drop for Project {
     fn drop(self) {
-        let Project {
-            entries: _entries,
-            extra: _extra,
-            constraints: _constraints,
-            preferences: _preferences,
-            newer: _newer,
-            older: _older,
-            tests: _tests,
-            benchmarks: _benchmarks,
-            limit: _limit,
-            prefer_oldest: _prefer_oldest,
-            boot_installs: _boot_installs,
-            warnings: _warnings,
-        } = self;
+        drop_fields!(self; entries, extra, constraints, preferences, newer, older, tests, benchmarks, limit, prefer_oldest, boot_installs, warnings);
     }
 }
 
