@@ -5,3 +5,4 @@ pub mod Taken
 pub mod ProjectFiles
 pub mod One
 pub mod ExtraPackages
+pub mod ListFields

@@ -72,9 +72,9 @@ fn has_flag(cond: &Cond) -> bool
     let mut left = cond;
     loop {
         match left {
-            Cond::Flag(_) => return true,
             Cond::Always => return false,
             Cond::Never => return false,
+            Cond::Flag(_) => return true,
             Cond::Os(_) => return false,
             Cond::Arch(_) => return false,
             Cond::Impl(_, _) => return false,
@@ -114,30 +114,48 @@ fn holds(own: Result<bool, Cause>) -> bool
     }
 }
 
-/// Whether the items inside the branch are read.
-pub(crate) fn is_taken(
-    word: ProjectBranchWord,
-    chain: Option<bool>,
-    own: Result<bool, Cause>,
-) -> bool
-    ensures { result ≡ is_taken word chain own }
-{
-    holds(own) && !was_taken(word, chain)
+/// A branch: its word, the chain directly before it, and the value of its own condition.
+#[derive(Drop)]
+pub(crate) struct ProjectBranch {
+    pub word: ProjectBranchWord,
+    pub chain: Option<bool>,
+    pub own: Result<bool, Cause>,
 }
 
-/// Whether a branch of the chain was taken, for the branch directly after. None ends the chain.
-pub(crate) fn chain_behind(
-    word: ProjectBranchWord,
-    chain: Option<bool>,
-    own: Result<bool, Cause>,
-) -> Option<bool>
-    ensures { result ≡ chain_behind word chain own }
-{
-    match word {
-        ProjectBranchWord::If | ProjectBranchWord::Elif => Some(
-            holds(own) || was_taken(word, chain),
-        ),
-        ProjectBranchWord::Else => None,
+impl ProjectBranch {
+    /// Whether the items inside are read.
+    pub fn is_taken(&self) -> bool
+        ensures { result ≡ is_taken self.now.word self.now.chain self.now.own }
+    {
+        holds(self.own) && !was_taken(self.word, self.chain)
+    }
+
+    /// Whether a branch of the chain was taken, for the branch directly after. None ends the chain.
+    pub fn chain_behind(&self) -> Option<bool>
+        ensures { result ≡ chain_behind self.now.word self.now.chain self.now.own }
+    {
+        match self.word {
+            ProjectBranchWord::If | ProjectBranchWord::Elif => Some(
+                holds(self.own) || was_taken(self.word, self.chain),
+            ),
+            ProjectBranchWord::Else => None,
+        }
+    }
+
+    /// The fault: the condition has no value, or else the branch isn't allowed here.
+    pub fn fault(&self) -> Option<ProjectSaid>
+        ensures { result ≡ branch_fault self.now.word self.now.chain self.now.own }
+    {
+        match self.own {
+            Err(cause) => Some(ProjectSaid::Bad(cause)),
+            Ok(_) => {
+                if fits(self.word, self.chain) {
+                    None
+                } else {
+                    Some(ProjectSaid::Bad(Cause::ElseWithoutIf))
+                }
+            }
+        }
     }
 }
 
@@ -147,25 +165,5 @@ fn fits(word: ProjectBranchWord, chain: Option<bool>) -> bool
     match word {
         ProjectBranchWord::If => true,
         ProjectBranchWord::Elif | ProjectBranchWord::Else => chain.is_some(),
-    }
-}
-
-/// The fault of a branch: its condition has no value, or else it isn't allowed here.
-pub(crate) fn branch_fault(
-    word: ProjectBranchWord,
-    chain: Option<bool>,
-    own: Result<bool, Cause>,
-) -> Option<ProjectSaid>
-    ensures { result ≡ branch_fault word chain own }
-{
-    match own {
-        Err(cause) => Some(ProjectSaid::Bad(cause)),
-        Ok(_) => {
-            if fits(word, chain) {
-                None
-            } else {
-                Some(ProjectSaid::Bad(Cause::ElseWithoutIf))
-            }
-        }
     }
 }

@@ -1,11 +1,9 @@
 // The part of a field.
-ghost use Rattle.std.specs.Prelude.{◌≡◌, IfOk};
+ghost use Rattle.std.specs.Prelude.{◌≡◌, IfOk, MatchResult};
 ghost use Rattle.plan_types.specs.Bytes.{joined_text};
-ghost use Rattle.constraint_text.specs.Constraints.{Constraints, ConstraintsFault};
-ghost use Rattle.constraint_text.specs.Named.{NamedRanges, NamedFault};
-ghost use Rattle.constraint_text.specs.Relaxes.{Relaxes, RelaxFault};
+ghost use Rattle.plan_types.specs.declared.refusal.Cause.{Cause};
 ghost use Rattle.project_file.specs.Words.{field_word};
-ghost use Rattle.project_file.specs.Fields.{FieldSays, IsRead, KindSays, or_bad, switch_said};
+ghost use Rattle.project_file.specs.Fields.{FieldSays, KindSays, or_bad, switch_said};
 ghost use Rattle.text_grammar.specs.Words.{words};
 ghost use Rattle.version_range.specs.Number.{limit_of};
 
@@ -40,16 +38,17 @@ pub(crate) fn said_by(
 fn said_as(alloc: Global, kind: FieldKind, text: &Text) -> Result<ProjectSaid, NoMemory>
     ensures { IfOk result (KindSays kind text.now) }
 {
+    let bytes = text.as_bytes();
     match kind {
         FieldKind::Packages => entries(alloc, text, false),
         FieldKind::OptionalPackages => entries(alloc, text, true),
-        FieldKind::Extra => extra(alloc, text),
-        FieldKind::Constraints => constraints(alloc, text),
-        FieldKind::Preferences => preferences(alloc, text),
-        FieldKind::Newer => newer(alloc, text),
-        FieldKind::Older => older(alloc, text),
-        FieldKind::Switch(which) => Ok(switch_said(which, boolean(text.as_bytes()))),
-        FieldKind::Limit => Ok(limit_said(text.as_bytes())),
+        FieldKind::Extra => said_of(read_named(alloc, bytes), ProjectSaid::Extra),
+        FieldKind::Constraints => said_of(read_constraints(alloc, bytes), ProjectSaid::Constraints),
+        FieldKind::Preferences => said_of(read_named(alloc, bytes), ProjectSaid::Preferences),
+        FieldKind::Newer => said_of(read_relax(alloc, bytes), ProjectSaid::Newer),
+        FieldKind::Older => said_of(read_relax(alloc, bytes), ProjectSaid::Older),
+        FieldKind::Switch(which) => Ok(switch_said(which, boolean(bytes))),
+        FieldKind::Limit => Ok(limit_said(bytes)),
     }
 }
 
@@ -60,51 +59,20 @@ fn entries(alloc: Global, text: &Text, optional: bool) -> Result<ProjectSaid, No
     Ok(ProjectSaid::Entries { texts, optional })
 }
 
-fn extra(alloc: Global, text: &Text) -> Result<ProjectSaid, NoMemory>
-    ensures { IfOk result (IsRead ProjectSaid.Extra (NamedRanges text.now) (NamedFault text.now)) }
+// What a list says that was read, or its fault.
+fn said_of<T: Drop, F: FnOnce(List<T>) -> ProjectSaid>(
+    read: Result<List<T>, TextFault>,
+    said: F,
+) -> Result<ProjectSaid, NoMemory>
+    requires { F.IsAlwaysCallable said }
+    ensures { IfOk result (λ told. MatchResult read (λ found. F.post said found told)
+        (λ fault. (cause : Cause) × (fault ≡ TextFault.Bad cause) × (told ≡ ProjectSaid.Bad cause))) }
 {
-    match read_named(alloc, text.as_bytes()) {
-        Ok(found) => Ok(ProjectSaid::Extra(found)),
-        Err(TextFault::Bad(cause)) => Ok(ProjectSaid::Bad(cause)),
-        Err(TextFault::NoMemory) => Err(NoMemory),
-    }
-}
-
-fn constraints(alloc: Global, text: &Text) -> Result<ProjectSaid, NoMemory>
-    ensures { IfOk result (IsRead ProjectSaid.Constraints (Constraints text.now) (ConstraintsFault text.now)) }
-{
-    match read_constraints(alloc, text.as_bytes()) {
-        Ok(found) => Ok(ProjectSaid::Constraints(found)),
-        Err(TextFault::Bad(cause)) => Ok(ProjectSaid::Bad(cause)),
-        Err(TextFault::NoMemory) => Err(NoMemory),
-    }
-}
-
-fn preferences(alloc: Global, text: &Text) -> Result<ProjectSaid, NoMemory>
-    ensures { IfOk result (IsRead ProjectSaid.Preferences (NamedRanges text.now) (NamedFault text.now)) }
-{
-    match read_named(alloc, text.as_bytes()) {
-        Ok(found) => Ok(ProjectSaid::Preferences(found)),
-        Err(TextFault::Bad(cause)) => Ok(ProjectSaid::Bad(cause)),
-        Err(TextFault::NoMemory) => Err(NoMemory),
-    }
-}
-
-fn newer(alloc: Global, text: &Text) -> Result<ProjectSaid, NoMemory>
-    ensures { IfOk result (IsRead ProjectSaid.Newer (Relaxes text.now) (RelaxFault text.now)) }
-{
-    match read_relax(alloc, text.as_bytes()) {
-        Ok(found) => Ok(ProjectSaid::Newer(found)),
-        Err(TextFault::Bad(cause)) => Ok(ProjectSaid::Bad(cause)),
-        Err(TextFault::NoMemory) => Err(NoMemory),
-    }
-}
-
-fn older(alloc: Global, text: &Text) -> Result<ProjectSaid, NoMemory>
-    ensures { IfOk result (IsRead ProjectSaid.Older (Relaxes text.now) (RelaxFault text.now)) }
-{
-    match read_relax(alloc, text.as_bytes()) {
-        Ok(found) => Ok(ProjectSaid::Older(found)),
+    match read {
+        Ok(found) => {
+            let told = said(found);
+            Ok(told)
+        }
         Err(TextFault::Bad(cause)) => Ok(ProjectSaid::Bad(cause)),
         Err(TextFault::NoMemory) => Err(NoMemory),
     }

@@ -3,7 +3,7 @@ ghost use Rattle.std.specs.Prelude.{◌≡◌, ◌++◌, ◌||◌, IfOk, OnOk};
 ghost use Rattle.plan_types.specs.Bytes.{joined_text};
 ghost use Rattle.plan_types.specs.Name.{is_package_name};
 ghost use Rattle.cabal_lexer.specs.Tree.{tree_of};
-ghost use Rattle.project_file.specs.Parts.{FlagsAdded, flag_part, flag_parts, flags_said, is_every, package_parts, said_flags};
+ghost use Rattle.project_file.specs.Parts.{FlagsAdded, flag_part, flags_said, is_every, package_parts, said_flags};
 
 use crate::flags::flags_in;
 use crate::part::{ProjectPart, ProjectSaid};
@@ -23,14 +23,16 @@ pub(crate) fn read_package(
 ) -> Result<(), NoMemory>
     ensures { OnOk result (parts.new ≡ parts.old ++ package_parts line args.now (tree_of items.now)) }
 {
-    if is_about(args) {
-        read_flags(alloc, args, items, parts)
-    } else {
-        parts.push(ProjectPart {
+    if !is_about(args) {
+        return parts.push(ProjectPart {
             line,
             said: ProjectSaid::Bad(Cause::BadName),
-        })
+        });
     }
+    for item in items {
+        read_item(alloc, args, item, parts)?;
+    }
+    Ok(())
 }
 
 fn is_about(args: &Text) -> bool
@@ -45,20 +47,6 @@ fn is_every(args: &Text) -> bool
     args.as_str() == "*"
 }
 
-fn read_flags(
-    alloc: Global,
-    args: &Text,
-    items: &[Element],
-    parts: &mut List<ProjectPart>,
-) -> Result<(), NoMemory>
-    ensures { OnOk result (parts.new ≡ parts.old ++ flag_parts args.now (tree_of items.now)) }
-{
-    for item in items {
-        read_item(alloc, args, item, parts)?;
-    }
-    Ok(())
-}
-
 fn read_item(
     alloc: Global,
     args: &Text,
@@ -71,12 +59,7 @@ fn read_item(
         Element::Field { line, name, values } => {
             read_field(alloc, args, *line, name, values, parts)
         }
-        Element::Section {
-            line: _,
-            name: _,
-            args: _,
-            items: _,
-        } => Ok(()),
+        Element::Section { .. } => Ok(()),
     }
 }
 

@@ -3,7 +3,7 @@ ghost use Rattle.std.specs.Prelude.{◌≡◌, ◌++◌, None, IfOk, OnOk};
 ghost use Rattle.cabal_lexer.specs.Tree.{tree_of};
 ghost use Rattle.project_file.specs.Parts.{Adds, IfTaken, IsBranch, ItemAdds, Says, SaysAll, SectionAdds, placed};
 
-use crate::branch::{branch_fault, chain_behind, is_taken, own_condition};
+use crate::branch::{ProjectBranch, own_condition};
 use crate::field::said_by;
 use crate::package::read_package;
 use crate::part::{ProjectPart, ProjectSaid};
@@ -71,16 +71,18 @@ fn read_item(
             name,
             args,
             items,
-        } => {
-            let section = ProjectSection {
+        } => read_section(
+            alloc,
+            env,
+            &ProjectSection {
                 line: *line,
                 name,
                 args,
                 items,
-            };
-            let left = read_section(alloc, env, &section, chain, parts)?;
-            Ok(left)
-        }
+            },
+            chain,
+            parts,
+        ),
     }
 }
 
@@ -144,10 +146,11 @@ fn read_branch(
         (SaysAll env.now section.now.items.now) left) parts.old parts.new) }
 {
     let own = own_condition(alloc, env, word, section.args)?;
-    place(section.line, branch_fault(word, chain, own), parts)?;
-    let taken = is_taken(word, chain, own);
+    let branch = ProjectBranch { word, chain, own };
+    place(section.line, branch.fault(), parts)?;
+    let taken = branch.is_taken();
     read_taken(alloc, env, taken, section.items.as_slice(), parts)?;
-    Ok(chain_behind(word, chain, own))
+    Ok(branch.chain_behind())
 }
 
 // The items of a branch that isn't taken aren't read.

@@ -18,5 +18,4 @@ returns-in-Field c =
 
 pub returns-in-Section : goal.returns-in-Section
 returns-in-Section c behind =
-    let part = c.in-Section in
-    ap (λ v. c.args.parts.now ++ v) (sym (flag_section c.args.args.now part.line part.name part.args part.items behind part.is))
+    ap (λ v. c.args.parts.now ++ v) (sym (flag_section c.args.args.now _ _ _ _ behind c.in-Section.is))

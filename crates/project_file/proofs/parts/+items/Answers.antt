@@ -1,6 +1,7 @@
 use Rattle.std.proofs.Common.{◌≡◌, ◌++◌, [], sym, subst, ap, ◌∙◌, refl, arith, drop}
 use Rattle.std.specs.Prelude.{Some}
 use Rattle.std.proofs.lemmas.List.{append-nil, drop_all}
+use Rattle.std.proofs.lemmas.Result.{IfOk-weaker}
 use Rattle.cabal_lexer.specs.Tree.{tree_of}
 use Rattle.project_file.specs.Parts.{Says, package_parts, placed}
 use Rattle.project_file.specs.Words.{section_word}
@@ -13,11 +14,12 @@ read_item-returns-in_ok-place-in-Field t c =
     let field = c.in-Field in
     field_goes c.args.env.now field.line field.name field.values c.args.chain c.in_ok-said-in-Field.said c.args.parts.now field.is c.in_ok-said-in-Field.ensures c.in_ok-place-in-Field.ensures
 
-pub read_item-returns-in_ok-left-in-Section : goal.read_item-returns-in_ok-left-in-Section
-read_item-returns-in_ok-left-in-Section t c behind more rest =
+pub read_item-returns-in-Section : goal.read_item-returns-in-Section
+read_item-returns-in-Section t c =
     let part = c.in-Section in
-    section_goes c.args.env.now part.line part.name part.args part.items c.args.chain c.args.parts.now c.read_section.new.parts behind more
-    part.is refl (c.in_ok-left-in-Section.ensures behind more rest)
+    IfOk-weaker c.read_section.result _ _
+    (λ left says behind more rest. section_goes c.args.env.now part.line part.name part.args part.items c.args.chain c.args.parts.now c.read_section.new.parts behind more part.is refl (says behind more rest))
+    c.read_section.ensures
 
 pub read_items-loop-item-preserved : goal.read_items-loop-item-preserved
 read_items-loop-item-preserved t c =

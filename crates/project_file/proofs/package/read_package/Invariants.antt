@@ -1,7 +1,7 @@
 use Rattle.std.proofs.Common.{◌≡◌, ◌++◌, drop}
 use Rattle.cabal_lexer.specs.Tree.{tree_of}
 use Rattle.project_file.specs.Parts.{flag_parts}
-use Rattle.project_file.proofs.package.read_flags.Given as goal
+use Rattle.project_file.proofs.package.read_package.Given as goal
 
 -- the parts so far and those of the rest are all parts
 abbrev pub invariant-loop-item : goal.invariant-loop-item
