@@ -131,10 +131,9 @@ finds-in folders files (Literal path) dir looked h is tree =
 
 module _ (tells : Option Files) (folders : Bool) (spot : Spot) (dir : Bytes) (is : dir_of spot ≡ Some dir) where
   -- the local files in the spot's directory are those of the spot
-  pub found-spot : {E : Type 0} → is_looked_up spot ≡ true → is_local_file folders spot ≡ false → (result : Result (List Bytes) E)
-      → IfSome tells (λ files. IfOk result (λ found. found ≡ cabal_in dir (names_in files dir))) → IfSome tells (λ files. IfOk result (Alike folders files spot))
-  found-spot looked other (Err e) h = if_some _ tells (λ files t. tt)
-  found-spot looked other (Ok found) h = if_some _ tells (λ files t.
+  pub found-spot : (found : List Bytes) → is_looked_up spot ≡ true → is_local_file folders spot ≡ false
+      → IfSome tells (λ files. found ≡ cabal_in dir (names_in files dir)) → IfSome tells (λ files. Alike folders files spot found)
+  found-spot found looked other h = if_some _ tells (λ files t.
       subst (Alike folders files spot) (sym (some_at (λ files. found ≡ cabal_in dir (names_in files dir)) tells files t h))
       (finds-in folders files spot dir looked other is))
 

@@ -4,12 +4,11 @@ ghost use Rattle.std.specs.Option.{option_copied};
 ghost use Rattle.outside_folder.specs.Calls.{Leaves};
 ghost use Rattle.project_paths.specs.Listings.{Agree};
 ghost use Rattle.project_paths.specs.Entries.{entry_files, first_crowded, is_crowded, judged, lesser, refusal_of, shown, unless_none};
-ghost use Rattle.project_paths.specs.Found.{found_by};
 ghost use Rattle.plan_types.specs.Refusal.{Answers, Settles};
 
 use crate::found::{FoundFiles, found_by};
 use crate::listings::Listings;
-use crate::pattern::{Pattern, pattern_of};
+use crate::pattern::pattern_of;
 use outside_folder::Folder;
 use plan_types::{Cause, Halt, List, NoMemory, ProjectEntry, Refusal, Text};
 use std::alloc::Global;
@@ -27,30 +26,14 @@ pub(crate) fn entry_files<F: Folder>(
     ensures agree { OnOk result (Agree (F.tells folder.new) listings.new) }
     ensures folder { Leaves F.tells F.faults folder.old folder.new (IsErrOf result Halt.Failed) }
 {
-    match pattern_of(alloc, entry.text.as_str())? {
+    let pattern = pattern_of(alloc, entry.text.as_str())?;
+    match pattern {
         None => Err(refused(entry, Cause::Unsupported, Text::new(alloc))?),
         Some(pattern) => {
-            let files = files_by(alloc, entry, &pattern, listings, folder)?;
-            Ok(files)
+            let found = found_by(alloc, &pattern, listings, folder)?;
+            judged(alloc, entry, found)
         }
     }
-}
-
-fn files_by<F: Folder>(
-    alloc: Global,
-    entry: &ProjectEntry,
-    pattern: &Pattern,
-    listings: &mut Listings,
-    folder: &mut F,
-) -> Result<List<Text>, Halt>
-    requires { Agree (F.tells folder.old) listings.old }
-    ensures observed { IfSome (F.tells folder.old)
-        (λ files. Answers (λ outcome. outcome ≡ judged entry.now (found_by files pattern.now)) result) }
-    ensures agree { OnOk result (Agree (F.tells folder.new) listings.new) }
-    ensures folder { Leaves F.tells F.faults folder.old folder.new (IsErrOf result Halt.Failed) }
-{
-    let found = found_by(alloc, pattern, listings, folder)?;
-    judged(alloc, entry, found)
 }
 
 fn refused(entry: &ProjectEntry, cause: Cause, detail: Text) -> Result<Halt, NoMemory>

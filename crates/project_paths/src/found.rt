@@ -2,7 +2,7 @@
 ghost use Rattle.std.specs.Prelude.{◌≡◌, ◌∷◌, [], ◌++◌, ◌&&◌, map, filter, not, IfOk, IfSome, OnOk, IsErrOf, IsTrue};
 ghost use Rattle.outside_folder.specs.Calls.{Leaves};
 ghost use Rattle.outside_folder.specs.Files.{is_tree};
-ghost use Rattle.project_paths.specs.Listings.{Agree, names_in};
+ghost use Rattle.project_paths.specs.Listings.{Agree};
 ghost use Rattle.project_paths.specs.Found.{Finds, cabal_in, found_by, found_files, has_files, is_cabal_file, is_local, is_local_file};
 ghost use Rattle.project_paths.specs.Spots.{is_looked_up, is_open, path_of};
 
@@ -84,7 +84,11 @@ fn files_at<F: Folder>(
     }
     match spot.dir() {
         None => Ok(List::new(alloc)),
-        Some(dir) => cabal_at(alloc, dir, listings, folder),
+        Some(dir) => {
+            listings.list(alloc, dir, folder)?;
+            let files = cabal_in(alloc, dir, listings.names(dir))?;
+            Ok(files)
+        }
     }
 }
 
@@ -109,24 +113,6 @@ fn only(alloc: Global, path: &Text) -> Result<List<Text>, NoMemory>
 {
     let mut files = List::new(alloc);
     files.push(path.copy()?)?;
-    Ok(files)
-}
-
-fn cabal_at<F: Folder>(
-    alloc: Global,
-    dir: &Text,
-    listings: &mut Listings,
-    folder: &mut F,
-) -> Result<List<Text>, Trouble>
-    requires { Agree (F.tells folder.old) listings.old }
-    ensures observed { IfSome (F.tells folder.old)
-        (λ files. IfOk result (λ found. found ≡ cabal_in dir.now (names_in files dir.now))) }
-    ensures tree { IfSome (F.tells folder.old) (λ files. OnOk result (IsTrue (is_tree files))) }
-    ensures agree { OnOk result (Agree (F.tells folder.new) listings.new) }
-    ensures folder { Leaves F.tells F.faults folder.old folder.new (IsErrOf result Trouble.Failed) }
-{
-    listings.list(alloc, dir, folder)?;
-    let files = cabal_in(alloc, dir, listings.names(dir))?;
     Ok(files)
 }
 

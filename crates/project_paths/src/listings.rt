@@ -6,7 +6,7 @@ ghost use Rattle.project_paths.specs.Listings.{Agree, Puts, kept, listed, names_
 
 use indexmap::IndexMap;
 use outside_folder::{Folder, Name, Trouble, list_names};
-use plan_types::{List, NoMemory, Text};
+use plan_types::{List, NoMemory, Text, drop_fields};
 use std::alloc::Global;
 
 /// The names in the directories listed so far, by path.
@@ -15,10 +15,9 @@ pub(crate) struct Listings {
     pub by_dir: IndexMap<Text, List<Name>>,
 }
 
-// Explicit, so that it is proved once: a derived one is expanded at each exit.
 impl Drop for Listings {
     fn drop(self) {
-        let Listings { by_dir: _by_dir } = self;
+        drop_fields!(self; by_dir);
     }
 }
 
