@@ -12,7 +12,7 @@ ghost use Rattle.plan_types.specs.Packages.{declared_by};
 
 use crate::{Part, Qual, Var};
 use indexmap::IndexSet;
-use plan_types::{Body, FlagDecl, Index, NoMemory, Package, Text};
+use plan_types::{Body, FlagDecl, Index, NoMemory, Package, Text, drop_fields};
 use std::alloc::Global;
 use std::marker::Model;
 
@@ -24,13 +24,9 @@ pub struct Names {
     flags: IndexSet<Text>,
 }
 
-// Explicit, so that it is proved once: a derived one is expanded at each exit.
 impl Drop for Names {
     fn drop(self) {
-        let Names {
-            packages: _packages,
-            flags: _flags,
-        } = self;
+        drop_fields!(self; packages, flags);
     }
 }
 
