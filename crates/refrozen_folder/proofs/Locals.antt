@@ -12,23 +12,14 @@ use Rattle.plan_types.specs.declared.refusal.Refusal.{Refusal}
 use Rattle.outside_folder.specs.declared.folder.Name.{Name}
 use Rattle.outside_folder.specs.Files.{Bytes, Files}
 use Rattle.project_paths.specs.Entries.{files_by, first_crowded, refusal_of, unless_crowded}
-use Rattle.project_paths.specs.Found.{cabal_in, found_at, found_by, found_files, is_cabal_file, is_local}
+use Rattle.project_paths.specs.Found.{cabal_in, found_at, found_by, is_cabal_file, is_local}
 use Rattle.project_paths.specs.Local.{all_files, and_then, finished_of, in_order, local_files, unless_none as unless_no_paths}
 use Rattle.project_paths.specs.Patterns.{pattern_of}
-use Rattle.project_paths.specs.Places.{names_at, path_in, place_in, places}
+use Rattle.project_paths.specs.Places.{names_at, path_in, places}
 use Rattle.project_paths.specs.Spots.{is_cabal}
-use Rattle.refrozen_folder.proofs.Lists.{all-in-order, given_by, taken_by}
+use Rattle.refrozen_folder.proofs.Lists.{all-in-order}
+use Rattle.refrozen_folder.proofs.Places.{FolderPlace, FoundFiles, Pattern}
 use Rattle.refrozen_folder.proofs.Root.{is_other, other-by, slash-inside, slash-other}
-
--- patterns, places, and paths with their local files
-abbrev Pattern : Type 0
-Pattern = taken_by (found_by [])
-
-abbrev FolderPlace : Type 0
-FolderPlace = given_by (place_in [])
-
-abbrev FoundFiles : Type 0
-FoundFiles = given_by (found_files [])
 
 -- paths of which none is that of the freeze file, or a refusal
 abbrev pub AreOthers : Result (List Bytes) Refusal → Type 0

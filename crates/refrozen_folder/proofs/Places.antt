@@ -21,13 +21,13 @@ use Rattle.refrozen_folder.proofs.Lists.{filter-flat, filter-map, flat-alike, fl
 use Rattle.refrozen_folder.proofs.Root.{Entry, as_name, inserted, same-listed}
 
 -- patterns, places, and paths with their local files
-abbrev Pattern : Type 0
+abbrev pub Pattern : Type 0
 Pattern = taken_by (found_by [])
 
-abbrev FolderPlace : Type 0
+abbrev pub FolderPlace : Type 0
 FolderPlace = given_by (place_in [])
 
-abbrev FoundFiles : Type 0
+abbrev pub FoundFiles : Type 0
 FoundFiles = given_by (found_files [])
 
 -- whether a place isn't the freeze file
