@@ -1,9 +1,9 @@
 -- The definitions on small files and builds.
-use Rattle.std.specs.Prelude.{◌≡◌, false, true, List, [], ◌∷◌, Ok, Err, codes, refl}
+use Rattle.std.specs.Prelude.{◌≡◌, List, [], ◌∷◌, Ok, Err, codes, refl}
 use Rattle.std.specs.Fmt.{digits}
 use Rattle.std.specs.Str.Lines.{lines}
-use Rattle.plan_nodes.specs.declared.node.NodeKind.TheVariants.{Store}
 use Rattle.plan_nodes.specs.declared.node.PlanNode.{PlanNode}
+use Rattle.plan_nodes.specs.Line.{no_line}
 use Rattle.plan_jobs.specs.declared.job.JobFault.TheVariants.{NoSlot, NotRunning}
 use Rattle.plan_jobs.specs.Events.{completes, fails, starts}
 use Rattle.replay_text.specs.declared.event.JobEvent.TheVariants.{Start, Completed}
@@ -20,17 +20,7 @@ unfolding digits
 second_node = refl
 
 abbrev nodes : List PlanNode
-nodes = record {
-  kind = Store;
-  name = codes "a";
-  version = record { parts = 1 ∷ [] };
-  component = codes "lib";
-  id = codes "a-1-0f";
-  unbuildable = false;
-  libs = [];
-  tools = [];
-  setups = [];
-} ∷ []
+nodes = record no_line { name = codes "a"; id = codes "a-1-0f" } ∷ []
 
 told : history_text nodes (starts (Ok 0) ∷ starts (Err NoSlot) ∷ completes 6 (Err NotRunning) ∷ fails 0 (Ok tt) ∷ [])
     ≡ codes "replay\nstart 1 a-1-0f\nstart NoSlot\ncompleted 7 NotRunning\nfailed 1\n"
