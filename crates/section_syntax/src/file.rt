@@ -5,11 +5,10 @@ ghost use Rattle.plan_types.specs.Bytes.{joined_text};
 ghost use Rattle.section_syntax.specs.declared.part.Head.{Head};
 ghost use Rattle.section_syntax.specs.declared.part.HeadField.{HeadField};
 ghost use Rattle.section_syntax.specs.declared.part.Section.{Section};
-ghost use Rattle.section_syntax.specs.File.{HeadSays, Says, IsFile, SectionIs, headed, section_name};
-ghost use Rattle.cabal_lexer.specs.Tree.{Tree, in_front, tree_of};
-ghost use Rattle.section_syntax.specs.Words.{head_word, section_kind};
+ghost use Rattle.section_syntax.specs.File.{HeadSays, Says, IsFile, headed, section_name};
+ghost use Rattle.cabal_lexer.specs.Tree.{Tree, in_front};
+ghost use Rattle.section_syntax.specs.Words.{head_word};
 
-use crate::element::SectionElement;
 use crate::items::{Inside, read_parts};
 use crate::part::{File, Head, HeadField, Section, SectionKind};
 use crate::words::{HeadWord, build_type, head_word, section_kind};
@@ -55,15 +54,19 @@ fn read_top(
             name,
             args,
             items,
-        } => {
-            let section = SectionElement {
-                line: *line,
-                name,
-                args,
-                items,
-            };
-            read_section(alloc, spec, &section, sections)?;
-        }
+        } => match section_kind(name.as_str()) {
+            Some(kind) => {
+                let parts = read_parts(alloc, Inside { spec, kind }, items.as_slice())?;
+                let name = section_name(alloc, kind, args)?;
+                sections.push(Section {
+                    line: *line,
+                    kind,
+                    name,
+                    parts,
+                })?;
+            }
+            None => {}
+        },
     }
     Ok(())
 }
@@ -101,33 +104,6 @@ fn push_head(line: u32, head: Option<Head>, heads: &mut List<HeadField>) -> Resu
         Some(head) => heads.push(HeadField { line, head }),
         None => Ok(()),
     }
-}
-
-fn read_section(
-    alloc: Global,
-    spec: Spec,
-    section: &SectionElement<'_>,
-    sections: &mut List<Section>,
-) -> Result<(), NoMemory>
-    ensures { OnOk result ((behind : Tree) (heads : List HeadField) (more : List Section) → Says spec behind heads more
-        → (found : List Section)
-        × SectionIs spec (section_kind section.now.name.now) section.now.line section.now.args.now
-        (tree_of section.now.items.now)
-        (λ said. Says spec behind heads said) found
-        × (sections.new ++ more ≡ sections.old ++ found)) }
-{
-    let Some(kind) = section_kind(section.name.as_str()) else {
-        return Ok(());
-    };
-    let parts = read_parts(alloc, Inside { spec, kind }, section.items.as_slice())?;
-    let name = section_name(alloc, kind, section.args)?;
-    sections.push(Section {
-        line: section.line,
-        kind,
-        name,
-        parts,
-    })?;
-    Ok(())
 }
 
 fn section_name(alloc: Global, kind: SectionKind, args: &Text) -> Result<Text, NoMemory>

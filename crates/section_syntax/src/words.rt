@@ -3,7 +3,7 @@
 ghost use Rattle.std.specs.Prelude.{◌≡◌, ◌==◌, map, IfOk};
 ghost use Rattle.std.specs.List.{slice_split};
 ghost use Rattle.cabal_lexer.specs.Lines.{trim};
-ghost use Rattle.section_syntax.specs.Words.{field_word, component_field, flag_field, setup_field, inner_word, component_section, head_word, section_kind, visibility, build_type, between_commas};
+ghost use Rattle.section_syntax.specs.Words.{field_word, inner_word, component_section, head_word, section_kind, visibility, build_type, between_commas};
 ghost use Rattle.text_grammar.specs.Words.{boolean};
 
 use crate::part::SectionKind;
@@ -56,42 +56,24 @@ pub fn field_word(kind: SectionKind, name: &str) -> FieldWord
     ensures { result ≡ field_word kind name.now }
 {
     match kind {
-        SectionKind::Component(_) | SectionKind::Common => component_field(name),
-        SectionKind::Flag => flag_field(name),
-        SectionKind::Setup => setup_field(name),
-    }
-}
-
-fn component_field(name: &str) -> FieldWord
-    ensures { result ≡ component_field name.now }
-{
-    match name {
-        "import" => FieldWord::Import,
-        "build-depends" => FieldWord::Depends,
-        "build-tool-depends" => FieldWord::ToolDepends,
-        "buildable" => FieldWord::Buildable,
-        "visibility" => FieldWord::Visibility,
-        "build-tools" => FieldWord::BuildTools,
-        _ => FieldWord::Unread,
-    }
-}
-
-fn flag_field(name: &str) -> FieldWord
-    ensures { result ≡ flag_field name.now }
-{
-    match name {
-        "default" => FieldWord::Default,
-        "manual" => FieldWord::Manual,
-        _ => FieldWord::Unread,
-    }
-}
-
-fn setup_field(name: &str) -> FieldWord
-    ensures { result ≡ setup_field name.now }
-{
-    match name {
-        "setup-depends" => FieldWord::SetupDepends,
-        _ => FieldWord::Unread,
+        SectionKind::Component(_) | SectionKind::Common => match name {
+            "import" => FieldWord::Import,
+            "build-depends" => FieldWord::Depends,
+            "build-tool-depends" => FieldWord::ToolDepends,
+            "buildable" => FieldWord::Buildable,
+            "visibility" => FieldWord::Visibility,
+            "build-tools" => FieldWord::BuildTools,
+            _ => FieldWord::Unread,
+        },
+        SectionKind::Flag => match name {
+            "default" => FieldWord::Default,
+            "manual" => FieldWord::Manual,
+            _ => FieldWord::Unread,
+        },
+        SectionKind::Setup => match name {
+            "setup-depends" => FieldWord::SetupDepends,
+            _ => FieldWord::Unread,
+        },
     }
 }
 
