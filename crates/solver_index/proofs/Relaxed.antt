@@ -61,6 +61,11 @@ module _ (r left right : Range) (are : starts r ≡ starts left ++ starts right)
   from-right : (start : Version) → Contains (starts right) start → Contains (starts r) start
   from-right start h = subst (λ xs. Contains xs start) (sym are) (Contains-append_right (starts left) (starts right) start h)
 
+  -- the start of one side, where the range has all versions from there to the member
+  started-from : (side : Range) (start w : Version) → IsStart (members side) start w
+      → ((u : Version) → HasNumbers u → is_below u start ≡ false → is_below w u ≡ false → members r u ≡ true) → IsStart (members r) start w
+  started-from side start w is each = record { numbers = is.numbers; low = is.low; each = each }
+
   both-started : ((v : Version) → members r v ≡ members left v && members right v) → IsStarted r
   both-started is = record {
     start_of = λ w n member.
@@ -71,22 +76,14 @@ module _ (r left right : Range) (are : starts r ≡ starts left ++ starts right)
           | true ↦ λ e. (
             b.0,
             from-right b.0 b.1,
-            record {
-              numbers = b.2.numbers;
-              low = b.2.low;
-              each = λ u m above below. is u
-                  ∙ and_from (members left u) (members right u) (a.2.each u m (not_below_through a.0 b.0 u (not_below_back a.0 b.0 e) above) below) (b.2.each u m above below);
-            },
+            started-from right b.0 w b.2 (λ u m above below. is u
+                ∙ and_from (members left u) (members right u) (a.2.each u m (not_below_through a.0 b.0 u (not_below_back a.0 b.0 e) above) below) (b.2.each u m above below)),
           )
           | false ↦ λ e. (
             a.0,
             from-left a.0 a.1,
-            record {
-              numbers = a.2.numbers;
-              low = a.2.low;
-              each = λ u m above below. is u
-                  ∙ and_from (members left u) (members right u) (a.2.each u m above below) (b.2.each u m (not_below_through b.0 a.0 u e above) below);
-            },
+            started-from left a.0 w a.2 (λ u m above below. is u
+                ∙ and_from (members left u) (members right u) (a.2.each u m above below) (b.2.each u m (not_below_through b.0 a.0 u e above) below)),
           )
         ] refl;
     numbers = both-numbers;
@@ -97,17 +94,11 @@ module _ (r left right : Range) (are : starts r ≡ starts left ++ starts right)
     start_of = λ w n member.
         elim (or_cases (members left w) (members right w) (sym (is w) ∙ member)) [
           | inl m ↦
-              let a = l.start_of w n m in (
-                a.0,
-                from-left a.0 a.1,
-                record { numbers = a.2.numbers; low = a.2.low; each = λ u o above below. is u ∙ or_left (members left u) (members right u) (a.2.each u o above below) },
-              )
+              let a = l.start_of w n m in
+              (a.0, from-left a.0 a.1, started-from left a.0 w a.2 (λ u o above below. is u ∙ or_left (members left u) (members right u) (a.2.each u o above below)))
           | inr m ↦
-              let b = k.start_of w n m in (
-                b.0,
-                from-right b.0 b.1,
-                record { numbers = b.2.numbers; low = b.2.low; each = λ u o above below. is u ∙ or_right (members left u) (members right u) (b.2.each u o above below) },
-              )
+              let b = k.start_of w n m in
+              (b.0, from-right b.0 b.1, started-from right b.0 w b.2 (λ u o above below. is u ∙ or_right (members left u) (members right u) (b.2.each u o above below)))
         ];
     numbers = both-numbers;
   }

@@ -44,3 +44,7 @@ AreDefaultsIn entries names = AreRows (length entries) (λ i. AreDefaultsOf name
 -- one such table for each instance of each package
 abbrev pub AreDefaults : List Package → NameTable → List (List DefaultTable) → Type 0
 AreDefaults packages names = AreRows (length packages) (λ p. AreDefaultsIn (entries_of packages p) names)
+
+-- the default that an instance at a place declares for a flag
+abbrev pub declared_default : List Package → NameTable → ℕ → ℕ → ℕ → Bool
+declared_default packages names p i f = default_of names f (entry_at (entries_of packages p) i).body

@@ -1,6 +1,6 @@
 // Dependencies of an instance, with names as numbers and ranges as places.
 use crate::place_runs::PlaceRuns;
-use plan_types::{DepKind, List};
+use plan_types::{DepKind, List, drop_fields};
 use qualified_goals::Part;
 
 /// A flag or a stanza, and its value.
@@ -42,14 +42,8 @@ pub struct Dependencies {
     pub needs: List<UnitNeed>,
 }
 
-// Explicit, so that it is proved once: a derived one is expanded at each exit.
 impl Drop for Dependencies {
     fn drop(self) {
-        let Dependencies {
-            flags: _flags,
-            deps: _deps,
-            setup: _setup,
-            needs: _needs,
-        } = self;
+        drop_fields!(self; flags, deps, setup, needs);
     }
 }

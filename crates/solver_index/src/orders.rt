@@ -17,21 +17,9 @@ pub(crate) fn orders_of(
     ensures { IfOk result (AreOrders project.now packages.now) }
 {
     let wishes = wishes_of(alloc, project)?;
-    orders_by(alloc, packages, project, &wishes)
-}
-
-fn orders_by(
-    alloc: Global,
-    packages: &[Package],
-    project: &Project,
-    wishes: &Wishes,
-) -> Result<List<List<u64>>, NoMemory>
-    requires { AreWishes project.now wishes.now }
-    ensures { IfOk result (AreOrders project.now packages.now) }
-{
     let mut orders = List::new(alloc);
     for found in packages {
-        orders.push(instance_order(alloc, found, project, wishes)?)?;
+        orders.push(instance_order(alloc, found, project, &wishes)?)?;
     }
     Ok(orders)
 }

@@ -1,5 +1,5 @@
 // Places at which instances enter or leave a range.
-ghost use Rattle.std.specs.Prelude.{◌≡◌, OnOk, MatchOption, true};
+ghost use Rattle.std.specs.Prelude.{◌≡◌, ◌++◌, ◌∷◌, [], ℕ, List, OnOk, MatchOption, true};
 ghost use Rattle.plan_types.specs.Members.{members};
 ghost use Rattle.version_range.specs.Version.{has_versions};
 ghost use Rattle.solver_index.specs.Before.{IsJoin, is_operator};
@@ -27,41 +27,31 @@ pub(crate) fn push_bounds(
         push_bounds(bounds, right, entries, from, to)?;
         rest = left;
     }
-    push_operator(bounds, rest, entries, from, to)
+    let (first, last) = operator_places(rest, entries, from, to);
+    bounds.push(first as u64)?;
+    bounds.push(last as u64)
 }
 
-fn push_operator(
-    bounds: &mut List<u64>,
-    range: &Range,
-    entries: &[Entry],
-    from: usize,
-    to: usize,
-) -> Result<(), NoMemory>
+// The places at which instances enter and leave the range of an operator.
+fn operator_places(range: &Range, entries: &[Entry], from: usize, to: usize) -> (usize, usize)
     requires block { IsBlock entries.now from to }
     requires versions { has_versions range.now ≡ true }
     requires operator { is_operator range.now ≡ true }
-    ensures { OnOk result (AreBounds (members range.now) entries.now from to bounds.old bounds.new) }
+    ensures { (bounds : List ℕ) → AreBounds (members range.now) entries.now from to
+        bounds (bounds ++ result.0 ∷ result.1 ∷ []) }
 {
     let first = first_without(Test::IsBefore, range, entries, from, to);
     let last = first_without(Test::IsMember, range, entries, first, to);
-    bounds.push(first as u64)?;
-    bounds.push(last as u64)
+    (first, last)
 }
 
 fn sides(range: &Range) -> Option<(&Range, &Range)>
     ensures { MatchOption result (is_operator range.now ≡ true) (λ p. IsJoin range.now p.0.now p.1.now) }
 {
     match range {
-        Range::Any => None,
-        Range::Nothing => None,
-        Range::Equal(_) => None,
-        Range::Prefix(_) => None,
-        Range::AtLeast(_) => None,
-        Range::Above(_) => None,
-        Range::AtMost(_) => None,
-        Range::Below(_) => None,
+        Range::Both(left, right) | Range::Either(left, right) => Some((left.get(), right.get())),
+        Range::Any | Range::Nothing | Range::Equal(_) | Range::Prefix(_) => None,
+        Range::AtLeast(_) | Range::Above(_) | Range::AtMost(_) | Range::Below(_) => None,
         Range::Major(_) => None,
-        Range::Both(left, right) => Some((left.get(), right.get())),
-        Range::Either(left, right) => Some((left.get(), right.get())),
     }
 }

@@ -14,7 +14,7 @@ use crate::units::{UnitPlaces, places_of};
 use constraint_set::Constraints;
 use plan_types::{
     Body, Dep, DepKind, Description, Entry, FlagDecl, FlatDep, Instance, List, Literal, NoMemory,
-    Package, PartName, Project, Text,
+    Package, PartName, Project, Text, drop_fields,
 };
 use qualified_goals::{Names, Part};
 use std::alloc::Global;
@@ -29,16 +29,9 @@ pub(crate) struct Sources<'a> {
     pub units: List<UnitPlaces>,
 }
 
-// Explicit, so that it is proved once: a derived one is expanded at each exit.
 impl<'a> Drop for Sources<'a> {
     fn drop(self) {
-        let Sources {
-            packages: _packages,
-            project: _project,
-            names: _names,
-            constraints: _constraints,
-            units: _units,
-        } = self;
+        drop_fields!(self; packages, project, names, constraints, units);
     }
 }
 

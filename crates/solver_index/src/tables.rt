@@ -1,14 +1,12 @@
 // All tables of an index and a project.
 ghost use Rattle.std.specs.Prelude.{◌≡◌, List, IfOk, true};
 ghost use Rattle.plan_types.specs.declared.index.Package.{Package};
-ghost use Rattle.plan_types.specs.Packages.{entries_of};
 ghost use Rattle.qualified_goals.specs.Names.{NameTable};
 ghost use Rattle.constraint_set.specs.Stands.{Represents};
-ghost use Rattle.solver_index.specs.Defaults.{AreDefaults, default_of};
+ghost use Rattle.solver_index.specs.Defaults.{AreDefaults, declared_default};
 ghost use Rattle.solver_index.specs.Dependencies.{all_dependencies};
 ghost use Rattle.solver_index.specs.Blocks.{AllAreInBlocks};
 ghost use Rattle.solver_index.specs.Orders.{AreOrders};
-ghost use Rattle.solver_index.specs.Places.{entry_at};
 ghost use Rattle.solver_index.specs.Versions.{packages_have_versions};
 
 use crate::defaults::{Defaults, default_at, defaults_of};
@@ -17,7 +15,7 @@ use crate::orders::orders_of;
 use crate::sources::Sources;
 use crate::units::units_of;
 use constraint_set::Constraints;
-use plan_types::{List, NoMemory, Package, Project};
+use plan_types::{List, NoMemory, Package, Project, drop_fields};
 use qualified_goals::Names;
 use std::alloc::Global;
 
@@ -32,14 +30,9 @@ pub struct Tables {
     pub defaults: List<List<Defaults>>,
 }
 
-// Explicit, so that it is proved once: a derived one is expanded at each exit.
 impl Drop for Tables {
     fn drop(self) {
-        let Tables {
-            orders: _orders,
-            dependencies: _dependencies,
-            defaults: _defaults,
-        } = self;
+        drop_fields!(self; orders, dependencies, defaults);
     }
 }
 
@@ -81,7 +74,7 @@ impl Tables {
     /// The default that an instance declares for a flag; off without a declaration.
     pub fn default_of(&self, p: u64, i: u64, f: u64) -> bool
         ensures { (packages : List Package) (names : NameTable) → AreDefaults packages names self.now.defaults
-            → result ≡ default_of names f (entry_at (entries_of packages p) i).body }
+            → result ≡ declared_default packages names p i f }
     {
         default_at(self.defaults.as_slice(), p, i, f)
     }

@@ -9,7 +9,7 @@ ghost use Rattle.solver_index.specs.Wishes.{AreWishes, is_named};
 
 use indexmap::{IndexMap, IndexSet};
 use keyed_lists::{Lists, items_at, push_at};
-use plan_types::{List, Named, NoMemory, Project, Range, Text};
+use plan_types::{List, Named, NoMemory, Project, Range, Text, drop_fields};
 use std::alloc::Global;
 
 /// The extra packages, and the preferred ranges.
@@ -18,13 +18,9 @@ pub(crate) struct Wishes {
     pub(crate) preferred: Lists<Text, Range>,
 }
 
-// Explicit, so that it is proved once: a derived one is expanded at each exit.
 impl Drop for Wishes {
     fn drop(self) {
-        let Wishes {
-            extra: _extra,
-            preferred: _preferred,
-        } = self;
+        drop_fields!(self; extra, preferred);
     }
 }
 
@@ -69,16 +65,11 @@ impl Wishes {
     pub(crate) fn preferred(&self, alloc: Global, name: &Text) -> Result<List<Range>, NoMemory>
         ensures { IfOk result (λ ranges. ranges ≡ items_at same_text self.now.preferred name.now) }
     {
-        copies_of(alloc, items_at(&self.preferred, name))
+        let ranges = items_at(&self.preferred, name);
+        let mut copies = List::new(alloc);
+        for range in ranges {
+            copies.push(range.copy(alloc)?)?;
+        }
+        Ok(copies)
     }
-}
-
-fn copies_of(alloc: Global, ranges: &[Range]) -> Result<List<Range>, NoMemory>
-    ensures { IfOk result (λ copies. copies ≡ ranges.now) }
-{
-    let mut copies = List::new(alloc);
-    for range in ranges {
-        copies.push(range.copy(alloc)?)?;
-    }
-    Ok(copies)
 }

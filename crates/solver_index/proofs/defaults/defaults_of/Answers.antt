@@ -12,10 +12,9 @@ pub loop-found-preserved : goal.loop-found-preserved
 loop-found-preserved c =
     let n = c.loop-found.found-index in
     let packages = c.args.packages.now in
-    let names = c.args.names.now in
     let here = get_or_read packages n c.found-item.result c.loop-found-test.true c.found-item.is no_package in
-    rows_pushed n (λ p. AreDefaultsIn (entries_of packages p) names) c.loop-found.rows c.push.new.self c.in_ok-defaults_in.field-0 c.in_ok-push.ensures.ok c.loop-found.invariant
-    (subst (λ (entries : List Entry). AreDefaultsIn entries names c.in_ok-defaults_in.field-0) (c.as_slice.ensures ∙ ap (λ (p : Package). p.entries) here) c.in_ok-defaults_in.ensures)
+    rows_pushed n (λ p. AreDefaultsIn (entries_of packages p) c.args.names.now) c.loop-found.rows c.push.new.self c.in_ok-defaults_in.field-0 c.in_ok-push.ensures.ok c.loop-found.invariant
+    (subst (λ (entries : List Entry). AreDefaultsIn entries c.args.names.now c.in_ok-defaults_in.field-0) (c.as_slice.ensures ∙ ap (λ (p : Package). p.entries) here) c.in_ok-defaults_in.ensures)
 
 pub returns : goal.returns
 returns c =

@@ -5,7 +5,7 @@ use Rattle.solver_index.specs.Orders.{IsOrderOf}
 use Rattle.solver_index.specs.Orders.{IsTable}
 use Rattle.solver_index.proofs.Made.{row_pushed}
 use Rattle.plan_types.specs.Packages.{package_at, no_package}
-use Rattle.solver_index.proofs.orders.orders_by.Goals as goal
+use Rattle.solver_index.proofs.orders.orders_of.Goals as goal
 
 pub loop-found-preserved : goal.loop-found-preserved
 loop-found-preserved c =

@@ -1,8 +1,7 @@
-use Rattle.std.proofs.Common.{◌≤◌, arith}
+use Rattle.std.proofs.Common.{◌≤◌, ◌++◌, ◌∷◌, [], append_assoc, refl, sym, arith}
 use Rattle.solver_index.proofs.Calm.{operator-bounds}
 use Rattle.solver_index.proofs.Operators.{operator-is}
-use Rattle.solver_index.proofs.range_bounds.push_operator.Goals as goal
-use Rattle.std.proofs.lemmas.Result.{on_ok_weaker}
+use Rattle.solver_index.proofs.range_bounds.operator_places.Goals as goal
 
 pub first_without-first-requires-clause-falls : goal.first_without-first-requires-clause-falls
 first_without-first-requires-clause-falls c = λ i j after up upto h.
@@ -19,10 +18,11 @@ first_without-last-requires-clause-falls c = λ i j after up upto h.
     is.down _ _ (block.numbers i low (omega (arith, up, upto))) (block.numbers j (omega (arith, low, up)) upto) (first.rest i after (omega (arith, up, upto))) (block.rise i j low up upto) h
 
 pub returns : goal.returns
-returns c =
+returns c bounds =
+    let one = c.first_without-first.result in
+    let two = c.first_without-last.result in
     let first = c.first_without-first.ensures in
     let last = c.first_without-last.ensures in
-    on_ok_weaker c.push-2.result (λ pushed.
     operator-bounds c.args.range.now (operator-is c.args.range.now c.requires.versions c.requires.operator) c.args.entries.now c.args.from c.args.to
-    c.first_without-first.result c.first_without-last.result c.requires.block first.low last.low last.high first.front first.rest last.front last.rest
-    c.args.bounds.now c.push.new.self c.push-2.new.self c.in_ok-push.ensures.ok pushed) c.push-2.ensures.ok
+    one two c.requires.block first.low last.low last.high first.front first.rest last.front last.rest
+    bounds (bounds ++ one ∷ []) (bounds ++ one ∷ two ∷ []) refl (sym (append_assoc bounds (one ∷ []) (two ∷ [])))
