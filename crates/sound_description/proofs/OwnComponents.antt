@@ -27,7 +27,7 @@ use Rattle.flatten.specs.Sound.{is_of_components}
 use Rattle.common_laws.specs.Passing.{all-less, any-front, any-back}
 use Rattle.sound_description.proofs.Names.{itself, same-back}
 use Rattle.plan_types.specs.Bytes.{same_text}
-use Rattle.plan_types.specs.Packages.{library_name}
+use Rattle.plan_types.specs.Packages.{library_name, is_library as is_library_kind}
 
 -- ---- declared components
 
@@ -48,11 +48,10 @@ module _ (file : File) (of_kind : SectionKind → Bool) (test : Component → Bo
 
 module _ (file : File) where
   one-lib : (l : LibName) (section : Section) (kind : SectionKind) → section.kind ≡ kind → (is_library kind && same_text (name_of l) section.name) ≡ true → list_any (λ c. is_lib c l) (component_in file section) ≡ true
-  one-lib l section (kinds.Component component.Library) is e = rw is (or_left (same_text section.name (name_of l)) false (same-back (name_of l) section.name e))
-  one-lib l section (kinds.Component component.Executable) is e = absurd (false≢true e)
-  one-lib l section (kinds.Component component.Test) is e = absurd (false≢true e)
-  one-lib l section (kinds.Component component.Bench) is e = absurd (false≢true e)
-  one-lib l section (kinds.Component component.Foreign) is e = absurd (false≢true e)
+  one-lib l section (kinds.Component kind) is e =
+      let both = and_parts (is_library_kind kind) (same_text (name_of l) section.name) e in
+      rw is (or_left (is_library_kind kind && same_text section.name (name_of l)) false
+      (and_from (is_library_kind kind) (same_text section.name (name_of l)) both.0 (same-back (name_of l) section.name both.1)))
   one-lib l section kinds.Common is e = absurd (false≢true e)
   one-lib l section kinds.Flag is e = absurd (false≢true e)
   one-lib l section kinds.Setup is e = absurd (false≢true e)
