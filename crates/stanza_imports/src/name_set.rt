@@ -4,7 +4,7 @@ ghost use Rattle.std.specs.Prelude.{◌≡◌, [], not, IfOk, OnErr, OnOk};
 ghost use Rattle.stanza_imports.specs.Names.{has, number_of, with_name};
 
 use indexmap::IndexSet;
-use plan_types::NoMemory;
+use plan_types::{NoMemory, drop_fields};
 use std::alloc::Global;
 use std::marker::Model;
 
@@ -13,10 +13,9 @@ pub struct NameSet<'a> {
     set: IndexSet<&'a str>,
 }
 
-// Explicit, so that it is proved once: a derived one is expanded at each exit.
 impl<'a> Drop for NameSet<'a> {
     fn drop(self) {
-        let NameSet { set: _set } = self;
+        drop_fields!(self; set);
     }
 }
 
