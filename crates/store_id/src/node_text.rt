@@ -1,12 +1,11 @@
 // The text that distinguishes the builds of a node, line by line.
 ghost use Rattle.std.specs.Prelude.{◌≡◌, ◌++◌, IfOk, IsTrue, OnOk, flat_map, count_by};
-ghost use Rattle.store_id.specs.NodeText.{names_each_once, id_text, line, head_lines, compiler_text, env_lines, is_on, switch_text, set_line, flag_line, needs_lines};
+ghost use Rattle.store_id.specs.NodeText.{names_each_once, id_text, line, head_lines, compiler_text, env_lines, is_on, set_line, flag_line, needs_lines};
 ghost use Rattle.plan_types.specs.Bytes.{same_text};
 
-use plan_nodes::{PlanNode, package_text};
+use plan_nodes::{PlanNode, name_and_version, package_text};
 use plan_types::{Description, Env, FlagDecl, FlagSet, List, NoMemory, Text};
 use std::alloc::Global;
-use version_range::print_version;
 
 /// Whether the flags have each declared one exactly once.
 pub fn names_each_once(declared: &List<FlagDecl>, flags: &List<FlagSet>) -> bool
@@ -56,11 +55,7 @@ fn push_head(alloc: Global, text: &mut Text, node: &PlanNode) -> Result<(), NoMe
 fn compiler_text(alloc: Global, env: &Env) -> Result<Text, NoMemory>
     ensures { IfOk result (λ text. text ≡ compiler_text env.now) }
 {
-    let mut text = env.compiler.copy()?;
-    let version = print_version(alloc, &env.compiler_version)?;
-    text.push_str("-")?;
-    text.push_str(version.as_str())?;
-    Ok(text)
+    name_and_version(alloc, &env.compiler, &env.compiler_version)
 }
 
 fn push_env(alloc: Global, text: &mut Text, env: &Env) -> Result<(), NoMemory>
@@ -92,13 +87,11 @@ fn push_flag(text: &mut Text, name: &str, on: bool) -> Result<(), NoMemory>
 {
     text.push_str("flag ")?;
     text.push_str(name)?;
-    text.push_str(switch_text(on))
-}
-
-fn switch_text(on: bool) -> &'static str
-    ensures { result.now ≡ switch_text on }
-{
-    if on { " on\n" } else { " off\n" }
+    if on {
+        text.push_str(" on\n")
+    } else {
+        text.push_str(" off\n")
+    }
 }
 
 fn push_needs(text: &mut Text, node: &PlanNode) -> Result<(), NoMemory>
