@@ -1,14 +1,13 @@
 //! Tests only. Tables of calls with their answers, for cases that no run of the program reaches: of texts, conditions
 //! and project files. It promises nothing.
+//! Public modules aren't for tests alone, so that mistakes in them are tried.
 #![tactic(auto)]
 
-#[cfg(test)]
-mod conditions;
+pub mod conditions;
 #[cfg(test)]
 mod outlooks;
 #[cfg(test)]
 mod printed;
-#[cfg(test)]
-mod projects;
+pub mod projects;
 #[cfg(test)]
 mod tables;
