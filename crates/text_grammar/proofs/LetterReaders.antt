@@ -14,7 +14,7 @@ use Rattle.text_grammar.proofs.FrontReaders.{Reader, errs, Apart, ends_kept, apa
 use Rattle.text_grammar.proofs.LeadingBlanks.{Never, never_starts, starts_same, NotDigits, starts_like}
 use Rattle.text_grammar.proofs.ChainParts.{ok_parts}
 use Rattle.text_grammar.proofs.MarkReaders.{led_at, led_reads, led_read, led_fault}
-use Rattle.text_grammar.proofs.ReaderSteps.{Good, errs_valued, valued_itself}
+use Rattle.text_grammar.proofs.ReaderSteps.{Good, errs_valued, map_read, valued_itself}
 
 -- ---- a language inside a wider one
 
@@ -229,19 +229,9 @@ module _ {A B : Type 0} (kind : Kind) (f : A → B) where
   reads_map : (L : List ℕ → A → Type 0) (R : Reader A) → Reads kind.digits L R → (K : List ℕ → B → Type 0) → ((text : List ℕ) (x : A) → L text x → K text (f x)) → ((text : List ℕ) (y : B) → K text y → (x : A) × L text x × (y ≡ f x))
       → (Q : Reader B) → ((text : List ℕ) → Q text ≡ valued f (R text)) → Reads kind.digits K Q
   reads_map L R g K to from Q same = record {
-    read = map_read;
+    read = map_read kind.digits L R g.read f K to Q same;
     reads = λ text y rest l a. let x = from text y l in same (text ++ rest) ∙ ap (valued f) (g.reads text x.0 rest x.1 a) ∙ ap (λ v. Ok (v, rest)) (sym x.2);
   }
-    where
-      map_read : (text : List ℕ) (y : B) (rest : List ℕ) → Q text ≡ Ok (y, rest) → Read K (Apart kind.digits) text y rest
-      map_read text y rest h = by (R text) refl
-        where
-          by : (o : Result (A × List ℕ) Cause) → R text ≡ o → Read K (Apart kind.digits) text y rest
-          by (Err cause) q = absurd (cc (h, same text, ap (valued f) q))
-          by (Ok p) q =
-              let r = g.read text p.0 p.1 q in
-              let e = ok_parts (f p.0) y p.1 rest (sym (same text ∙ ap (valued f) q) ∙ h) in
-              record { front = r.front; whole = r.whole ∙ ap (λ t. r.front ++ t) e.1; is = subst (K r.front) e.0 (to r.front p.0 r.is); apart = subst (Apart kind.digits r.front) e.1 r.apart }
 
   module _ (L L' : List ℕ → A → Type 0) (R R' : Reader A) (g : Pair kind L L' R R') (K K' : List ℕ → B → Type 0)
       (to : (text : List ℕ) (x : A) → L text x → K text (f x)) (from : (text : List ℕ) (y : B) → K text y → (x : A) × L text x × (y ≡ f x))

@@ -6,7 +6,7 @@ use Rattle.plan_types.specs.declared.refusal.Cause.{Cause}
 use Rattle.plan_types.specs.Bytes.{is_blank, begins_with}
 use Rattle.text_grammar.specs.Reading.{◌>>=◌, byte_after, byte_due, valued}
 use Rattle.text_grammar.specs.Parts.{Led}
-use Rattle.text_grammar.proofs.TextKind.{Kind, miss}
+use Rattle.text_grammar.proofs.TextKind.{Digits, Kind, miss}
 use Rattle.text_grammar.proofs.FrontReaders.{Reader, errs, Apart, ends_kept, apart_before, apart_within, Read, Like, Fault, due_fault, fault_up_like}
 use Rattle.text_grammar.proofs.ChainParts.{ok_parts}
 use Rattle.text_grammar.proofs.LeadingBlanks.{Never, never_starts, starts_same, no_digits, begins_like, byte_here, byte_gone, Begun, begun, due_here, due_gone}
@@ -152,18 +152,20 @@ pub valued_itself : {A : Type 0} (r : Result (A × List ℕ) Cause) → r ≡ va
 valued_itself (Ok p) = refl
 valued_itself (Err cause) = refl
 
+pub map_read : {A B : Type 0} (digits : Digits) (L : List ℕ → A → Type 0) (R : Reader A) → ((text : List ℕ) (x : A) (rest : List ℕ) → R text ≡ Ok (x, rest) → Read L (Apart digits) text x rest)
+    → (f : A → B) (K : List ℕ → B → Type 0) → ((text : List ℕ) (x : A) → L text x → K text (f x)) → (Q : Reader B) → ((text : List ℕ) → Q text ≡ valued f (R text))
+    → (text : List ℕ) (y : B) (rest : List ℕ) → Q text ≡ Ok (y, rest) → Read K (Apart digits) text y rest
+map_read {A} digits L R read f K to Q same text y rest h = by (R text) refl
+  where
+    by : (o : Result (A × List ℕ) Cause) → R text ≡ o → Read K (Apart digits) text y rest
+    by (Err cause) q = absurd (cc (h, same text, ap (valued f) q))
+    by (Ok p) q =
+        let r = read text p.0 p.1 q in
+        let e = ok_parts (f p.0) y p.1 rest (sym (same text ∙ ap (valued f) q) ∙ h) in
+        record { front = r.front; whole = r.whole ∙ ap (λ t. r.front ++ t) e.1; is = subst (K r.front) e.0 (to r.front p.0 r.is); apart = subst (Apart digits r.front) e.1 r.apart }
+
 module _ {A B : Type 0} (kind : Kind) (L : List ℕ → A → Type 0) (R : Reader A) (g : Good kind L R) (f : A → B) (K : List ℕ → B → Type 0)
     (to : (text : List ℕ) (x : A) → L text x → K text (f x)) (from : (text : List ℕ) (y : B) → K text y → (x : A) × L text x × (y ≡ f x)) (Q : Reader B) (same : (text : List ℕ) → Q text ≡ valued f (R text)) where
-  map_read : (text : List ℕ) (y : B) (rest : List ℕ) → Q text ≡ Ok (y, rest) → Read K (Apart kind.digits) text y rest
-  map_read text y rest h = by (R text) refl
-    where
-      by : (o : Result (A × List ℕ) Cause) → R text ≡ o → Read K (Apart kind.digits) text y rest
-      by (Err cause) q = absurd (cc (h, same text, ap (valued f) q))
-      by (Ok p) q =
-          let r = g.read text p.0 p.1 q in
-          let e = ok_parts (f p.0) y p.1 rest (sym (same text ∙ ap (valued f) q) ∙ h) in
-          record { front = r.front; whole = r.whole ∙ ap (λ t. r.front ++ t) e.1; is = subst (K r.front) e.0 (to r.front p.0 r.is); apart = subst (Apart kind.digits r.front) e.1 r.apart }
-
   map_fault : (text : List ℕ) (cause : Cause) → Q text ≡ Err cause → Fault kind K K Q Q text cause
   map_fault text cause h = by (R text) refl
     where
@@ -178,7 +180,7 @@ module _ {A B : Type 0} (kind : Kind) (L : List ℕ → A → Type 0) (R : Reade
 
   pub good_map : Good kind K Q
   good_map = record {
-    read = map_read;
+    read = map_read kind.digits L R g.read f K to Q same;
     reads = λ text y rest l a. let x = from text y l in same (text ++ rest) ∙ ap (valued f) (g.reads text x.0 rest x.1 a) ∙ ap (λ v. Ok (v, rest)) (sym x.2);
     fault = map_fault;
   }
