@@ -12,50 +12,38 @@ use Rattle.unit_record.specs.declared.field.RecordSaid.{RecordSaid}
 use Rattle.unit_record.specs.declared.field.RecordSaid.TheVariants.{Name, Version as VersionOf, Id, Depends, LibName, Unread}
 use Rattle.unit_record.specs.declared.contents.Contents.{Contents}
 
+-- the contents of a record without fields
+abbrev pub no_contents : Contents
+no_contents = record { left_out = false; bad = None; name = None; version = None; id = None; depends = [] }
+
+-- the contents that a field gives; a bad value gives none
+abbrev pub given : RecordSaid → Contents
+given (Name name) = record no_contents { name = name }
+given (VersionOf version) = record no_contents { version = version }
+given (Id id) = record no_contents { id = id }
+given (Depends ids) = record no_contents { depends = ids }
+given LibName = record no_contents { left_out = true }
+given Unread = no_contents
+
 -- whether a field marks the unit as a sublibrary
 abbrev pub is_lib_name : RecordSaid → Bool
-is_lib_name (Name name) = false
-is_lib_name (VersionOf version) = false
-is_lib_name (Id id) = false
-is_lib_name (Depends ids) = false
-is_lib_name LibName = true
-is_lib_name Unread = false
+is_lib_name said = (given said).left_out
 
 -- the name in a field
 abbrev pub name_of : RecordSaid → Option (List ℕ)
-name_of (Name name) = name
-name_of (VersionOf version) = None
-name_of (Id id) = None
-name_of (Depends ids) = None
-name_of LibName = None
-name_of Unread = None
+name_of said = (given said).name
 
 -- the version in a field
 abbrev pub version_of : RecordSaid → Option Version
-version_of (Name name) = None
-version_of (VersionOf version) = version
-version_of (Id id) = None
-version_of (Depends ids) = None
-version_of LibName = None
-version_of Unread = None
+version_of said = (given said).version
 
 -- the id in a field
 abbrev pub id_of : RecordSaid → Option (List ℕ)
-id_of (Name name) = None
-id_of (VersionOf version) = None
-id_of (Id id) = id
-id_of (Depends ids) = None
-id_of LibName = None
-id_of Unread = None
+id_of said = (given said).id
 
 -- the ids of the needed units in a field
 abbrev pub depends_of : RecordSaid → List (List ℕ)
-depends_of (Name name) = []
-depends_of (VersionOf version) = []
-depends_of (Id id) = []
-depends_of (Depends ids) = ids
-depends_of LibName = []
-depends_of Unread = []
+depends_of said = (given said).depends
 
 -- whether there is no value
 abbrev pub is_missing : {A : Type 0} → Option A → Bool

@@ -7,7 +7,7 @@ ghost use Rattle.plan_types.specs.Refusal.{RefusesAt};
 ghost use Rattle.unit_record.specs.Record.{Adds, contents, outcome};
 
 use crate::field::RecordSaid;
-use plan_types::{Cause, Fault, List, NoMemory, Text, UnitRecord, Version};
+use plan_types::{Cause, Fault, List, NoMemory, Text, UnitRecord, Version, drop_fields};
 use std::alloc::Global;
 
 /// The contents of a record, from its fields so far.
@@ -23,17 +23,9 @@ pub struct Contents {
     pub depends: List<Text>,
 }
 
-// Explicit, so that it is proved once: a derived one is expanded at each exit.
 impl Drop for Contents {
     fn drop(self) {
-        let Contents {
-            left_out: _left_out,
-            bad: _bad,
-            name: _name,
-            version: _version,
-            id: _id,
-            depends: _depends,
-        } = self;
+        drop_fields!(self; left_out, bad, name, version, id, depends);
     }
 }
 
