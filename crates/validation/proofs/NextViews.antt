@@ -1,5 +1,5 @@
 -- Shared: the view of a trail with one more choice.
-use Rattle.std.proofs.Common.{◌≡◌, length, true, false, not, cond, ◌&&◌, ◌||◌, IsTrue, List, [], ◌∷◌, ◌++◌, Some, None, map, filter, refl, sym, ap, ◌∙◌, subst, inl, inr, append_assoc, append-nil}
+use Rattle.std.proofs.Common.{◌≡◌, ℕ, length, true, false, not, cond, ◌&&◌, ◌||◌, IsTrue, List, [], ◌∷◌, ◌++◌, Some, None, map, filter, refl, sym, ap, ◌∙◌, subst, inl, inr, append_assoc, append-nil}
 use Rattle.std.specs.List.{Contains, All, flat_map, list_all}
 use Rattle.std.proofs.lemmas.Bool.{and_parts}
 use Rattle.std.proofs.lemmas.Grind.{flat_map-append}
@@ -19,7 +19,7 @@ use Rattle.choice_problem.specs.General.{general}
 use Rattle.choice_problem.proofs.ActiveDemands.{active-demand, open-plain}
 use Rattle.choice_problem.proofs.TrailLemmas.{next-open}
 use Rattle.choice_problem.proofs.VariableSets.{same-back, contains-has}
-use Rattle.validation.specs.View.{listed_counts, counts_before}
+use Rattle.validation.specs.View.{counts_along, listed_counts, counts_before}
 use Rattle.choice_stack.specs.Stack.{are_naming, names, turned}
 use Rattle.choice_problem.proofs.TrailEnds.{value-push}
 
@@ -51,6 +51,13 @@ turns-is trail c free d =
       | false ↦ λ e. elim (names c.var d) as (λ b. false ≡ b && false) [ true ↦ refl | false ↦ refl ]
     ] refl
 
+-- the counts before each choice, where one more choice is made
+along-push : (count : List Choice → ℕ) (before trail : List Choice) (c : Choice) → counts_along count before (trail ++ c ∷ []) ≡ counts_along count before trail ++ count (before ++ trail) ∷ []
+along-push count before [] c = ap (λ t. count t ∷ []) (sym (append-nil before))
+along-push count before (d ∷ trail) c =
+    ap (λ l. count before ∷ l)
+    (along-push count (before ++ d ∷ []) trail c ∙ ap (λ t. counts_along count (before ++ d ∷ []) trail ++ count t ∷ []) (append_assoc before (d ∷ []) trail))
+
 module _ (p : Problem) where
   pub after-push : (trail : List Choice) (c : Choice) → demands_after p (trail ++ c ∷ []) ≡ demands_after p trail ++ p.demands c
   after-push trail c =
@@ -63,23 +70,11 @@ module _ (p : Problem) where
       filter-alike (turns_yes trail c) (λ d. names c.var d && is_yes (value_in (trail ++ c ∷ [])) d) (turns-is trail c free) (demands_after p (trail ++ c ∷ []))
       ∙ ap (filter (λ d. names c.var d && is_yes (value_in (trail ++ c ∷ [])) d)) (after-push trail c)
 
-  counts-from : (before trail : List Choice) (c : Choice) → counts_before p before (trail ++ c ∷ []) ≡ counts_before p before trail ++ length (active p (before ++ trail)) ∷ []
-  counts-from before [] c = ap (λ t. length (active p t) ∷ []) (sym (append-nil before))
-  counts-from before (d ∷ trail) c =
-      ap (λ l. length (active p before) ∷ l)
-      (counts-from (before ++ d ∷ []) trail c ∙ ap (λ t. counts_before p (before ++ d ∷ []) trail ++ length (active p t) ∷ []) (append_assoc before (d ∷ []) trail))
-
   pub counts-push : (trail : List Choice) (c : Choice) → counts_before p [] (trail ++ c ∷ []) ≡ counts_before p [] trail ++ length (active p trail) ∷ []
-  counts-push trail c = counts-from [] trail c
-
-  listed-from : (before trail : List Choice) (c : Choice) → listed_counts p before (trail ++ c ∷ []) ≡ listed_counts p before trail ++ length (demands_after p (before ++ trail)) ∷ []
-  listed-from before [] c = ap (λ t. length (demands_after p t) ∷ []) (sym (append-nil before))
-  listed-from before (d ∷ trail) c =
-      ap (λ l. length (demands_after p before) ∷ l)
-      (listed-from (before ++ d ∷ []) trail c ∙ ap (λ t. listed_counts p (before ++ d ∷ []) trail ++ length (demands_after p t) ∷ []) (append_assoc before (d ∷ []) trail))
+  counts-push trail c = along-push (λ t. length (active p t)) [] trail c
 
   pub listed-push : (trail : List Choice) (c : Choice) → listed_counts p [] (trail ++ c ∷ []) ≡ listed_counts p [] trail ++ length (demands_after p trail) ∷ []
-  listed-push trail c = listed-from [] trail c
+  listed-push trail c = along-push (λ t. length (demands_after p t)) [] trail c
 
   -- the targets of demands are known
 

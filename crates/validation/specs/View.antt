@@ -7,15 +7,18 @@ use Rattle.choice_problem.specs.Active.{active}
 use Rattle.choice_problem.specs.Conflict.{lasting_set}
 pub use Rattle.choice_stack.specs.View.{View}
 
--- the number of demands listed before each choice, where other choices come before
+-- what a count gives before each choice of a trail, where other choices come before
+abbrev pub counts_along : (List Choice → ℕ) → List Choice → List Choice → List ℕ
+counts_along count before [] = []
+counts_along count before (c ∷ rest) = count before ∷ counts_along count (before ++ c ∷ []) rest
+
+-- the number of demands listed before each
 abbrev pub listed_counts : Problem → List Choice → List Choice → List ℕ
-listed_counts p before [] = []
-listed_counts p before (c ∷ rest) = length (demands_after p before) ∷ listed_counts p (before ++ c ∷ []) rest
+listed_counts p = counts_along (λ trail. length (demands_after p trail))
 
 -- the number of demands active before each
 abbrev pub counts_before : Problem → List Choice → List Choice → List ℕ
-counts_before p before [] = []
-counts_before p before (c ∷ rest) = length (active p before) ∷ counts_before p (before ++ c ∷ []) rest
+counts_before p = counts_along (λ trail. length (active p trail))
 
 -- the view of a problem after the choices of a trail
 abbrev pub view_of : Problem → List Choice → View

@@ -9,9 +9,7 @@ demand-requires c = omega (arith, c.if-place-before.true, c.count-before.ensures
 
 pub returns-then-place-before : goal.returns-then-place-before
 returns-then-place-before c =
-    let i = c.self.inside in
-    ap (λ (x : View). slice_get x.active c.args.place) (sym c.self.view_is)
-    ∙ pending-first i.stack.now i.addition.now i.woken i.fresh i.count c.self.invariant c.args.place c.demand.result.now c.demand.ensures
+    ap (λ (x : View). slice_get x.active c.args.place) (sym c.self.view_is) ∙ pending-first _ _ _ _ _ c.self.invariant c.args.place _ c.demand.ensures
 
 pub at-requires : goal.at-requires
 at-requires c = omega (arith, c.if-index-count.true, c.len-count.ensures)
