@@ -1,6 +1,6 @@
 -- Shared: each operator is a half-open interval of versions.
-use Rattle.std.proofs.Common.{◌≡◌, ℕ, zero, suc, ◌+◌, ◌<◌, Bool, true, false, not, ◌&&◌, List, [], ◌∷◌, ◌++◌, length, refl, sym, ap, ◌∙◌, subst, arith}
-use Rattle.std.specs.Prelude.{nat_eq}
+use Rattle.std.proofs.Common.{◌≡◌, ℕ, zero, suc, ◌+◌, ◌<◌, Bool, true, false, not, ◌&&◌, List, [], ◌∷◌, ◌++◌, length, Result, Ok, Err, refl, sym, ap, ◌∙◌, subst, arith}
+use Rattle.std.specs.Prelude.{nat_eq, IfOk}
 use Rattle.std.specs.declared.cmp.Ordering.{Ordering}
 use Rattle.std.specs.declared.cmp.Ordering.TheVariants.{Less, Equal, Greater}
 use Rattle.std.specs.Ordering.{is_lt, is_le, is_gt, is_ge, is_eq, nat_cmp, ordering_then}
@@ -11,7 +11,7 @@ use Rattle.std.proofs.lemmas.Cmp.{nat_cmp_total, tied_itself}
 use Rattle.plan_types.specs.declared.version.Version.{Version}
 use Rattle.plan_types.specs.Members.{order, major_end}
 use Rattle.version_range.specs.Version.{IsVersion, IsNumber}
-use Rattle.version_range.specs.Cuts.{is_below, HasNumbers, inside, prefix_end}
+use Rattle.version_range.specs.Cuts.{is_below, HasNumbers, inside, are_ends, AreEndsOf, prefix_end}
 use Rattle.version_range.proofs.RisingEnds.{below_through, not_below_through}
 use Rattle.version_range.proofs.RelaxedCuts.{least}
 
@@ -153,3 +153,8 @@ rises_major x lo hi some p q = (λ i. is_lt (order (ap (λ l. l.parts) p i) (q i
 
 pub numbers_of : (x lo : Version) → IsVersion x.parts → lo ≡ x → HasNumbers lo
 numbers_of x lo h e = subst HasNumbers (sym e) (version_some x.parts h)
+
+-- the same set by another test
+pub ends_of : {E : Type 0} (answer : Result (List Version) E) (here test : Version → Bool) → IfOk answer (λ ends. are_ends ends ≡ true) → IfOk answer (λ ends. (v : Version) → inside ends v ≡ here v) → ((v : Version) → HasNumbers v → here v ≡ test v) → IfOk answer (AreEndsOf test)
+ends_of (Ok ends) here test are members same = (are, λ v n. members v ∙ same v n)
+ends_of (Err fault) here test are members same = tt

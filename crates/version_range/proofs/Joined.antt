@@ -1,6 +1,6 @@
 -- Chains of sets under one operator.
 use Rattle.std.proofs.Common.{◌≡◌, Bool, true, false, ◌&&◌, ◌||◌, List, [], ◌∷◌, ◌++◌, ◌≤◌, arith, refl, sym, ap, ◌∙◌}
-use Rattle.std.proofs.Math.Bool.{and_assoc, or_assoc}
+use Rattle.std.proofs.Math.Bool.{and_assoc, or_assoc, and_comm, or_comm}
 use Rattle.plan_types.specs.declared.version.Version.{Version}
 use Rattle.version_range.specs.declared.merge.Connective.{Connective}
 use Rattle.version_range.specs.declared.merge.Connective.TheVariants.{Both, Either}
@@ -30,28 +30,14 @@ joined_one Either x v = by (inside x v)
 pub joined_push : (j : Connective) (xs : List (List Version)) (y : List Version) (v : Version) → joined j (xs ++ y ∷ []) v ≡ join j (joined j xs v) (inside y v)
 joined_push j xs y v = joined_append j xs (y ∷ []) v ∙ ap (join j (joined j xs v)) (joined_one j y v)
 
+pub join_back : (j : Connective) (t r : Bool) → join j t r ≡ join j r t
+join_back Both t r = and_comm t r
+join_back Either t r = or_comm t r
+
 -- an operand moves from the rest to the taken ones
 pub join_over : (j : Connective) (l r t : Bool) → join j l (join j t r) ≡ join j (join j l r) t
-join_over Both true true true = refl
-join_over Both true true false = refl
-join_over Both true false true = refl
-join_over Both true false false = refl
-join_over Both false r t = refl
-join_over Either true r t = refl
-join_over Either false true true = refl
-join_over Either false true false = refl
-join_over Either false false true = refl
-join_over Either false false false = refl
-
-pub join_back : (j : Connective) (t r : Bool) → join j t r ≡ join j r t
-join_back Both true true = refl
-join_back Both true false = refl
-join_back Both false true = refl
-join_back Both false false = refl
-join_back Either true true = refl
-join_back Either true false = refl
-join_back Either false true = refl
-join_back Either false false = refl
+join_over Both l r t = ap (λ b. l && b) (and_comm t r) ∙ sym (and_assoc l r t)
+join_over Either l r t = ap (λ b. l || b) (or_comm t r) ∙ sym (or_assoc l r t)
 
 -- the first two, merged, move to the end
 pub joined_behind : (j : Connective) (x y merged : List Version) (rest : List (List Version)) (v : Version) → inside merged v ≡ join j (inside x v) (inside y v) → joined j (rest ++ merged ∷ []) v ≡ joined j (x ∷ y ∷ rest) v

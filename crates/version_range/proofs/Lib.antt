@@ -1,4 +1,5 @@
 pub mod RisingEnds
+pub mod ChainLoops
 pub mod Intervals
 pub mod Joined
 pub mod VersionNumbers

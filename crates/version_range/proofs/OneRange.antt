@@ -50,26 +50,34 @@ module _ (spec : Spec) (n : ℕ) where
 -- ---- results of calls
 
 module _ (spec : Spec) (text : List ℕ) where
-  pub range_found : (answer : Result Range TextFault) → Gives (λ r. r) answer (range_of spec text) → IfOk answer (λ r. Stands spec 64 text r)
+  range_found : (answer : Result Range TextFault) → Gives (λ r. r) answer (range_of spec text) → IfOk answer (λ r. Stands spec 64 text r)
   range_found (Ok r) h = found spec 64 text r (sym (range_of_is spec text) ∙ h)
   range_found (Err fault) h = tt
 
-  pub versions_found : (answer : Result Range TextFault) → Gives (λ r. r) answer (range_of spec text) → IfOk answer (λ r. has_versions r ≡ true)
+  versions_found : (answer : Result Range TextFault) → Gives (λ r. r) answer (range_of spec text) → IfOk answer (λ r. has_versions r ≡ true)
   versions_found (Ok r) h = stands_valid spec 64 text r (range_found (Ok r) h)
   versions_found (Err fault) h = tt
 
-  pub fault_found : (answer : Result Range TextFault) → Gives (λ r. r) answer (range_of spec text) → IfErr answer (Refuses (FirstFault spec 64 text))
+  fault_found : (answer : Result Range TextFault) → Gives (λ r. r) answer (range_of spec text) → IfErr answer (Refuses (FirstFault spec 64 text))
   fault_found (Ok r) h = tt
   fault_found (Err NoMemory) h = tt
   fault_found (Err (Bad cause)) h = first_fault spec 64 text cause (sym (range_of_is spec text) ∙ h)
 
-  pub only_range : (answer : Result Range TextFault) → IfOk answer (λ r. Stands spec 64 text r) → IfErr answer (Refuses (FirstFault spec 64 text))
-      → (r : Range) → Stands spec 64 text r → MatchResult answer (λ found. found ≡ r) (Refuses (λ cause. ⊥))
-  only_range = only_value (Stands spec 64) (CauseAt spec 64) (λ front rest c d. one_cause spec 64 front rest {c = c} {d = d}) text (one_range spec 64 text)
-
-  pub only_fault : (answer : Result Range TextFault) → IfOk answer (λ r. Stands spec 64 text r) → IfErr answer (Refuses (FirstFault spec 64 text))
-      → (cause : Cause) → FirstFault spec 64 text cause → MatchResult answer (λ found. ⊥) (Refuses (λ why. why ≡ cause))
-  only_fault = exactly.only_fault (Stands spec 64) (CauseAt spec 64) (λ front rest c d. one_cause spec 64 front rest {c = c} {d = d}) text (one_range spec 64 text)
+  -- what a call returns, when it gives what the reader gives
+  pub answered : (answer : Result Range TextFault) → Gives (λ r. r) answer (range_of spec text)
+      → IfOk answer (λ r. Stands spec 64 text r) × IfOk answer (λ r. has_versions r ≡ true) × IfErr answer (Refuses (FirstFault spec 64 text))
+      × ((r : Range) → Stands spec 64 text r → MatchResult answer (λ found. found ≡ r) (Refuses (λ cause. ⊥)))
+      × ((cause : Cause) → FirstFault spec 64 text cause → MatchResult answer (λ found. ⊥) (Refuses (λ why. why ≡ cause)))
+  answered answer h =
+      let one : (front rest : List ℕ) (c d : Cause) → CauseAt spec 64 front rest c → CauseAt spec 64 front rest d → c ≡ d = λ front rest c d. one_cause spec 64 front rest {c = c} {d = d} in
+      let r = range_found answer h in
+      let f = fault_found answer h in (
+        r,
+        versions_found answer h,
+        f,
+        only_value (Stands spec 64) (CauseAt spec 64) one text (one_range spec 64 text) answer r f,
+        exactly.only_fault (Stands spec 64) (CauseAt spec 64) one text (one_range spec 64 text) answer r f,
+      )
 
 -- a text is at most one version
 pub one_version_of : (text : List ℕ) (v w : Option Version) → IsVersionOf text v → IsVersionOf text w → v ≡ w

@@ -15,7 +15,7 @@ use Rattle.version_range.specs.Grammar.{operator_text, of_version, has_sets, Com
 use Rattle.plan_types.specs.Bytes.{begins_with, is_blank, Blanks}
 use Rattle.text_grammar.specs.Parts.{Led, led}
 use Rattle.version_range.specs.Grammar.{any as atom_any, none as atom_none, version as atom_version, prefix as atom_prefix, set as atom_set}
-use Rattle.version_range.specs.Read.{byte_due, cause_at, either_at, operator_at, word_at, operand_at, equal_at, compared_at, set_at}
+use Rattle.version_range.specs.Read.{byte_due, cause_at, either_at, operator_at, word_at, plain_at, operand_at, set_at}
 use Rattle.text_grammar.specs.Reading.{◌>>=◌, skip_blanks, byte_after}
 use Rattle.text_grammar.proofs.FrontReaders.{Reader, Apart, Read, Fault}
 use Rattle.text_grammar.proofs.LeadingBlanks.{Never, NotDigits, other_byte, no_digits, blanks_none}
@@ -48,29 +48,11 @@ never_choice test byte K M none never text x (there l) = never text x l
 -- an operand that is no set
 abbrev Plain : Operator → List ℕ → Range → Type 0
 Plain Equal = EqualText
-Plain AtLeast = Compared AtLeast
-Plain Above = Compared Above
-Plain AtMost = Compared AtMost
-Plain Below = Compared Below
-Plain Major = Compared Major
-
-abbrev plain_at : Operator → Spec → Reader Range
-plain_at op spec text = elim op [
-  | Equal ↦ equal_at spec text
-  | AtLeast ↦ compared_at AtLeast spec text
-  | Above ↦ compared_at Above spec text
-  | AtMost ↦ compared_at AtMost spec text
-  | Below ↦ compared_at Below spec text
-  | Major ↦ compared_at Major spec text
-]
+Plain op = Compared op
 
 plain_good : (spec : Spec) (op : Operator) → Good (range_kind spec) (Plain op) (plain_at op spec)
 plain_good spec Equal = record { read = equal_read spec; reads = equal_reads spec; fault = equal_fault spec }
-plain_good spec AtLeast = compared_good spec AtLeast
-plain_good spec Above = compared_good spec Above
-plain_good spec AtMost = compared_good spec AtMost
-plain_good spec Below = compared_good spec Below
-plain_good spec Major = compared_good spec Major
+plain_good spec op = compared_good spec op
 
 never_equal : (test : ℕ → Bool) → NotDigits decimals test → Never test EqualText
 never_equal test none text r (whole v h) = never_version test none (version_text v.parts) v (refl, h)
@@ -78,19 +60,11 @@ never_equal test none text r (front v h) = let f = never_version test none (vers
 
 never_plain : (op : Operator) (test : ℕ → Bool) → NotDigits decimals test → Never test (Plain op)
 never_plain Equal = never_equal
-never_plain AtLeast = never_compared AtLeast
-never_plain Above = never_compared Above
-never_plain AtMost = never_compared AtMost
-never_plain Below = never_compared Below
-never_plain Major = never_compared Major
+never_plain op = never_compared op
 
 plain_compared : (op : Operator) (text : List ℕ) (r : Range) → Compared op text r → Plain op text r
 plain_compared Equal text r (compared v h) = whole v h
-plain_compared AtLeast text r c = c
-plain_compared Above text r c = c
-plain_compared AtMost text r c = c
-plain_compared Below text r c = c
-plain_compared Major text r c = c
+plain_compared op text r c = c
 
 zero_plain : (op : Operator) → Plain op (48 ∷ []) (of_version op (record { parts = 0 ∷ [] }))
 zero_plain op = plain_compared op (48 ∷ []) (of_version op (record { parts = 0 ∷ [] })) (subst (λ t. Compared op t (of_version op (record { parts = 0 ∷ [] }))) (sym version_zero.0) (compared (record { parts = 0 ∷ [] }) version_zero.1))

@@ -80,6 +80,14 @@ version_balanced (p ∷ q ∷ ps) h n = balanced_append (decimal p) (46 ∷ vers
 enclosed_balanced : (body : List ℕ) → IsBalanced body → IsBalanced (print.enclosed body)
 enclosed_balanced body h n = behind_append body (41 ∷ []) (n + 1) ∙ ap (λ m. m - 1) (h (n + 1)) ∙ omega arith
 
+term_balanced : (body : List ℕ) (place : RangePlace) → IsBalanced body → IsBalanced (as_term place body)
+term_balanced body places.Factor h = enclosed_balanced body h
+term_balanced body place h = h
+
+whole_balanced : (body : List ℕ) (place : RangePlace) → IsBalanced body → IsBalanced (as_whole place body)
+whole_balanced body places.Whole h = h
+whole_balanced body place h = enclosed_balanced body h
+
 operator_balanced : (op : Operator) → IsBalanced (operator_text op)
 operator_balanced operators.Equal n = refl
 operator_balanced operators.AtLeast n = refl
@@ -130,67 +138,33 @@ module _ (spec : Spec) where
     stands = λ place n k le. subst (λ f. At spec k place (f place) r) (sym is) (everywhere place k text r (atom a));
   }
 
+  -- two operands at their places, the first at the place of the chain
+  module _ (joint : Range → Range → Range) (first second : RangePlace) (between : List ℕ) (l r : Range) (a : Reads l) (b : Reads r) (level : IsBalanced between) where
+    abbrev body : List ℕ
+    body = text_in l first ++ (between ++ text_in r second)
+
+    behind_balanced : IsBalanced (between ++ text_in r second)
+    behind_balanced = balanced_append between (text_in r second) level (b.balanced second)
+
+    body_reads : ((k : ℕ) → At spec k first (text_in l first) l → At spec k second (text_in r second) r → At spec k first body (joint l r)) → (n k : ℕ) → most_open n body ≤ n + k → At spec k first body (joint l r)
+    body_reads join n k le =
+        let p = within_parts (text_in l first) (between ++ text_in r second) n (n + k) (a.balanced first) le in
+        let q = within_parts between (text_in r second) n (n + k) level p.1 in
+        join k (a.stands first n k p.0) (b.stands second n k q.1)
+
+    chain_reads : (around : RangePlace → List ℕ → List ℕ) → ((place : RangePlace) → text_in (joint l r) place ≡ around place body) → ((place : RangePlace) → IsBalanced body → IsBalanced (around place body)) → ((place : RangePlace) (n k : ℕ) → most_open n (around place body) ≤ n + k → At spec k place (around place body) (joint l r)) → Reads (joint l r)
+    chain_reads around is balanced placed = record {
+      balanced = λ place n. ap (open_behind n) (is place) ∙ balanced place (balanced_append (text_in l first) (between ++ text_in r second) (a.balanced first) behind_balanced) n;
+      stands = λ place n k le. subst (λ t. At spec k place t (joint l r)) (sym (is place)) (placed place n k (subst (λ t. most_open n t ≤ n + k) (is place) le));
+    }
+
   both_reads : (l r : Range) → Reads l → Reads r → Reads (Both l r)
-  both_reads l r a b = record {
-    balanced = λ place n. ap (open_behind n) (is place) ∙ term_balanced place n;
-    stands = λ place n k le. subst (λ t. At spec k place t (Both l r)) (sym (is place)) (term_placed body (Both l r) joined place n k (subst (λ t. most_open n t ≤ n + k) (is place) le));
-  }
-    where
-      left : List ℕ
-      left = text_in l places.Term
-
-      right : List ℕ
-      right = text_in r places.Factor
-
-      body : List ℕ
-      body = left ++ (codes " && " ++ right)
-
-      is : (place : RangePlace) → text_in (Both l r) place ≡ as_term place body
-      is place = text_Both (Both l r) l r place refl
-
-      body_balanced : IsBalanced body
-      body_balanced = balanced_append left (codes " && " ++ right) (a.balanced places.Term) (b.balanced places.Factor)
-
-      term_balanced : (place : RangePlace) → IsBalanced (as_term place body)
-      term_balanced places.Whole = body_balanced
-      term_balanced places.Term = body_balanced
-      term_balanced places.Factor = enclosed_balanced body body_balanced
-
-      joined : (n k : ℕ) → most_open n body ≤ n + k → Term spec (Inside spec k) body (Both l r)
-      joined n k le =
-          let p = within_parts left (codes " && " ++ right) n (n + k) (a.balanced places.Term) le in
-          both left right l r k (a.stands places.Term n k p.0) (b.stands places.Factor n k (omega (arith, p.1)))
+  both_reads l r a b = chain_reads Both places.Term places.Factor (codes " && ") l r a b (λ n. refl) as_term (λ place. text_Both (Both l r) l r place refl) (term_balanced _)
+      (term_placed _ (Both l r) (body_reads Both places.Term places.Factor (codes " && ") l r a b (λ n. refl) (both (text_in l places.Term) (text_in r places.Factor) l r)))
 
   either_reads : (l r : Range) → Reads l → Reads r → Reads (Either l r)
-  either_reads l r a b = record {
-    balanced = λ place n. ap (open_behind n) (is place) ∙ whole_balanced place n;
-    stands = λ place n k le. subst (λ t. At spec k place t (Either l r)) (sym (is place)) (whole_placed body (Either l r) joined place n k (subst (λ t. most_open n t ≤ n + k) (is place) le));
-  }
-    where
-      left : List ℕ
-      left = text_in l places.Whole
-
-      right : List ℕ
-      right = text_in r places.Term
-
-      body : List ℕ
-      body = left ++ (codes " || " ++ right)
-
-      is : (place : RangePlace) → text_in (Either l r) place ≡ as_whole place body
-      is place = text_Either (Either l r) l r place refl
-
-      body_balanced : IsBalanced body
-      body_balanced = balanced_append left (codes " || " ++ right) (a.balanced places.Whole) (b.balanced places.Term)
-
-      whole_balanced : (place : RangePlace) → IsBalanced (as_whole place body)
-      whole_balanced places.Whole = body_balanced
-      whole_balanced places.Term = enclosed_balanced body body_balanced
-      whole_balanced places.Factor = enclosed_balanced body body_balanced
-
-      joined : (n k : ℕ) → most_open n body ≤ n + k → Terms spec (Inside spec k) body (Either l r)
-      joined n k le =
-          let p = within_parts left (codes " || " ++ right) n (n + k) (a.balanced places.Whole) le in
-          either left right l r k (a.stands places.Whole n k p.0) (b.stands places.Term n k (omega (arith, p.1)))
+  either_reads l r a b = chain_reads Either places.Whole places.Term (codes " || ") l r a b (λ n. refl) as_whole (λ place. text_Either (Either l r) l r place refl) (whole_balanced _)
+      (whole_placed _ (Either l r) (body_reads Either places.Whole places.Term (codes " || ") l r a b (λ n. refl) (either (text_in l places.Whole) (text_in r places.Term) l r)))
 
   abbrev Claim : Range → Type 0
   Claim r = has_versions r ≡ true → Reads r

@@ -16,29 +16,25 @@ IsRelaxedAbove has v = IsTrue (has v) ⊎ IsNewer has v
 abbrev IsRelaxedBelow : (Version → Bool) → Version → Type 0
 IsRelaxedBelow has v = IsTrue (has v) ⊎ IsOlder has v
 
-newer_alone : (has relaxed : Version → Bool) → ((v : Version) → HasNumbers v → IsTrue (relaxed v) ↔ IsRelaxedAbove has v) → Relaxes true false has relaxed
-newer_alone has relaxed h v n = (λ t. to ((h v n).0 t), λ r. (h v n).1 (from r))
+-- the newer versions, or the older ones
+abbrev Beyond : Bool → (Version → Bool) → Version → Type 0
+Beyond true = IsNewer
+Beyond false = IsOlder
+
+one_side : (newer : Bool) (has relaxed : Version → Bool) → ((v : Version) → HasNumbers v → IsTrue (relaxed v) ↔ (IsTrue (has v) ⊎ Beyond newer has v)) → Relaxes newer (not newer) has relaxed
+one_side newer has relaxed h v n = (λ t. to newer ((h v n).0 t), λ r. (h v n).1 (from newer r))
   where
-    to : IsRelaxedAbove has v → IsRelaxed true false has v
-    to (inl m) = inl m
-    to (inr r) = inr (inl (refl, r))
+    to : (newer : Bool) → (IsTrue (has v) ⊎ Beyond newer has v) → IsRelaxed newer (not newer) has v
+    to newer (inl m) = inl m
+    to true (inr r) = inr (inl (refl, r))
+    to false (inr r) = inr (inr (refl, r))
 
-    from : IsRelaxed true false has v → IsRelaxedAbove has v
-    from (inl m) = inl m
-    from (inr (inl r)) = inr r.1
-    from (inr (inr r)) = absurd (false≢true r.0)
-
-older_alone : (has relaxed : Version → Bool) → ((v : Version) → HasNumbers v → IsTrue (relaxed v) ↔ IsRelaxedBelow has v) → Relaxes false true has relaxed
-older_alone has relaxed h v n = (λ t. to ((h v n).0 t), λ r. (h v n).1 (from r))
-  where
-    to : IsRelaxedBelow has v → IsRelaxed false true has v
-    to (inl m) = inl m
-    to (inr r) = inr (inr (refl, r))
-
-    from : IsRelaxed false true has v → IsRelaxedBelow has v
-    from (inl m) = inl m
-    from (inr (inl r)) = absurd (false≢true r.0)
-    from (inr (inr r)) = inr r.1
+    from : (newer : Bool) → IsRelaxed newer (not newer) has v → (IsTrue (has v) ⊎ Beyond newer has v)
+    from newer (inl m) = inl m
+    from true (inr (inl r)) = inr r.1
+    from true (inr (inr r)) = absurd (false≢true r.0)
+    from false (inr (inl r)) = absurd (false≢true r.0)
+    from false (inr (inr r)) = inr r.1
 
 -- ---- below
 
@@ -248,7 +244,7 @@ lifted_by ends new None are even e s =
     let none : ends ≡ [] = nil_from_length ends (by (length ends) refl) in
     let nothing : new ≡ [] = sym (e ∙ append-nil new) ∙ none in (
       ap are_ends nothing,
-      newer_alone (inside ends) (inside new) (λ v n. subst (λ n. IsTrue (inside n v) ↔ IsRelaxedAbove (inside ends) v) (sym nothing) (subst (λ n. IsTrue (inside [] v) ↔ IsRelaxedAbove (inside n) v) (sym none) (lifted_none v))),
+      one_side true (inside ends) (inside new) (λ v n. subst (λ n. IsTrue (inside n v) ↔ IsRelaxedAbove (inside ends) v) (sym nothing) (subst (λ n. IsTrue (inside [] v) ↔ IsRelaxedAbove (inside n) v) (sym none) (lifted_none v))),
     )
   where
     by : (n : ℕ) → length ends ≡ n → n ≡ 0
@@ -257,7 +253,7 @@ lifted_by ends new None are even e s =
 lifted_by ends new (Some last) are even e s =
     let ok : are_ends (new ++ last ∷ []) ≡ true = ap are_ends (sym e) ∙ are in
     let odd : odd_many new ≡ true = by (odd_many new) refl in
-    (lifted_are new last ok, newer_alone (inside ends) (inside new) (λ v n. subst (λ n. IsTrue (inside new v) ↔ IsRelaxedAbove (inside n) v) (sym e) (lifted new last ok odd v)))
+    (lifted_are new last ok, one_side true (inside ends) (inside new) (λ v n. subst (λ n. IsTrue (inside new v) ↔ IsRelaxedAbove (inside n) v) (sym e) (lifted new last ok odd v)))
   where
     by : (t : Bool) → odd_many new ≡ t → t ≡ true
     by true q = refl
@@ -270,7 +266,7 @@ kept_by (x ∷ xs) are odd =
     let s = last_of x xs in
     let e = s.2 in
     let even : odd_many s.0 ≡ false = by s.0 s.1 e (odd_many s.0) refl in
-    newer_alone (inside (x ∷ xs)) (inside (x ∷ xs)) (λ v n. subst (λ n. IsTrue (inside n v) ↔ IsRelaxedAbove (inside n) v) (sym e) (kept s.0 s.1 (ap are_ends (sym e) ∙ are) even v))
+    one_side true (inside (x ∷ xs)) (inside (x ∷ xs)) (λ v n. subst (λ n. IsTrue (inside n v) ↔ IsRelaxedAbove (inside n) v) (sym e) (kept s.0 s.1 (ap are_ends (sym e) ∙ are) even v))
   where
     by : (ys : List Version) (p : Version) → x ∷ xs ≡ ys ++ p ∷ [] → (t : Bool) → odd_many ys ≡ t → t ≡ false
     by ys p e false q = refl
@@ -281,7 +277,7 @@ pub lowered_by : (ends new : List Version) (z : Version) → are_ends ends ≡ t
 lowered_by [] new z are some e l = absurd (some refl)
 lowered_by (f ∷ rest) new z are some e l = (
   ap are_ends e ∙ lowered_are z f rest l are,
-  older_alone (inside (f ∷ rest)) (inside new) (λ v n. subst (λ m. IsTrue (inside m v) ↔ IsRelaxedBelow (inside (f ∷ rest)) v) (sym e) (lowered z f rest l are v n)),
+  one_side false (inside (f ∷ rest)) (inside new) (λ v n. subst (λ m. IsTrue (inside m v) ↔ IsRelaxedBelow (inside (f ∷ rest)) v) (sym e) (lowered z f rest l are v n)),
 )
 
 pub first_numbers : (ends : List Version) (f : Version) → are_ends ends ≡ true → ends ≢ [] → f ≡ get_or ends 0 f → HasNumbers f

@@ -119,8 +119,7 @@ Continues j a b xs ys more = (v : Version) → flip (join j a b) (inside more v)
 flip_both : (a t x : Bool) → flip a (flip t x) ≡ flip (flip t a) x
 flip_both true true true = refl
 flip_both true true false = refl
-flip_both true false true = refl
-flip_both true false false = refl
+flip_both true false x = refl
 flip_both false true x = refl
 flip_both false false x = refl
 

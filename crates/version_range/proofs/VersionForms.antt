@@ -16,7 +16,7 @@ use Rattle.text_grammar.specs.Parts.{Led, led, Behind, behind, Chain, one, more}
 abbrev Valid : (List ℕ → Range → Type 0) → Type 0
 Valid L = (text : List ℕ) (r : Range) → L text r → has_versions r ≡ true
 
-of_valid : (op : Operator) (v : Version) → has_versions (of_version op v) ≡ is_version v.parts
+pub of_valid : (op : Operator) (v : Version) → has_versions (of_version op v) ≡ is_version v.parts
 of_valid Equal v = ap has_versions (sym (ranges.rolls-Equal v)) ∙ fold-roll-Range Bool versions_step (layer.Equal v)
 of_valid AtLeast v = ap has_versions (sym (ranges.rolls-AtLeast v)) ∙ fold-roll-Range Bool versions_step (layer.AtLeast v)
 of_valid Above v = ap has_versions (sym (ranges.rolls-Above v)) ∙ fold-roll-Range Bool versions_step (layer.Above v)
@@ -24,7 +24,7 @@ of_valid AtMost v = ap has_versions (sym (ranges.rolls-AtMost v)) ∙ fold-roll-
 of_valid Below v = ap has_versions (sym (ranges.rolls-Below v)) ∙ fold-roll-Range Bool versions_step (layer.Below v)
 of_valid Major v = ap has_versions (sym (ranges.rolls-Major v)) ∙ fold-roll-Range Bool versions_step (layer.Major v)
 
-prefix_valid : (v : Version) → has_versions (ranges.Prefix v) ≡ is_version v.parts
+pub prefix_valid : (v : Version) → has_versions (ranges.Prefix v) ≡ is_version v.parts
 prefix_valid v = ap has_versions (sym (ranges.rolls-Prefix v)) ∙ fold-roll-Range Bool versions_step (layer.Prefix v)
 
 any_valid : has_versions ranges.Any ≡ true

@@ -5,7 +5,7 @@ use Rattle.std.specs.Fmt.{decimal}
 use Rattle.std.specs.Str.{all_ascii_digits}
 use Rattle.std.specs.Char.{is_ascii_digit}
 use Rattle.std.specs.Int.{IsInRange}
-use Rattle.std.proofs.lemmas.List.{append-nil, at_drop_more, take_more}
+use Rattle.std.proofs.lemmas.List.{append-nil, at_drop_more, take_more, take-append-drop}
 use Rattle.std.proofs.Math.Nat.{pow-le-pow_right}
 use Rattle.std.proofs.lemmas.Grind.{pow_more}
 use Rattle.std.proofs.lemmas.Bool.{false≢true, and_parts, and_from, ltb-true, lt-ltb}
@@ -188,6 +188,10 @@ pub only_version : (text new : List ℕ) → IsVersion new → text ≡ version_
 only_version text new v e qs w f = one_version new qs v w (sym e ∙ f)
 
 -- leading digits that are no number
+-- a text and its two parts, cut at an index
+pub cut_at : (text : List ℕ) (n : ℕ) {front back : List ℕ} → front ≡ take n text → back ≡ drop n text → text ≡ front ++ back
+cut_at text n f b = sym (take-append-drop n text) ∙ sym (λ i. f i ++ b i)
+
 pub not_number : (text digits rest : List ℕ) → text ≡ digits ++ rest → all_ascii_digits digits ≡ true → begins_with_digit rest ≡ false → ((0 < length digits) × (length digits ≤ 9) × (get_or digits 0 0 ≡ 48 → length digits ≡ 1) → ⊥) → (n : ℕ) (after : List ℕ) → IsNumber n → text ≡ decimal n ++ after → begins_with_digit after ≡ true
 not_number text digits rest e all end none n after h f = by (begins_with_digit after) refl
   where

@@ -44,6 +44,10 @@ no_numbers = record { parts = [] }
 abbrev pub are_ends : List Version → Bool
 are_ends ends = rises (no_numbers ∷ ends)
 
+-- the ends of a set: the versions that pass a test
+abbrev pub AreEndsOf : (Version → Bool) → List Version → Type 0
+AreEndsOf test ends = (are_ends ends ≡ true) × ((v : Version) → HasNumbers v → inside ends v ≡ test v)
+
 -- `&&` or `||` of two tests
 abbrev pub join : Connective → Bool → Bool → Bool
 join Both a b = a && b

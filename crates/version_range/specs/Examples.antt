@@ -1,7 +1,5 @@
 -- The definitions on small texts.
 use Rattle.std.specs.Prelude.{◌≡◌, ℕ, Bool, ◌∷◌, [], true, false, refl, codes}
-use Rattle.std.specs.declared.cmp.Ordering.{Ordering}
-use Rattle.std.specs.declared.cmp.Ordering.TheVariants.{Less, Equal, Greater}
 use Rattle.std.specs.Ordering.{is_eq, is_lt}
 use Rattle.std.proofs.Common.{inl, inr, sym, ap, ◌∙◌, lit≤}
 use Rattle.std.proofs.lemmas.Bool.{false≢true}

@@ -1,5 +1,6 @@
 -- The text of a range.
 use Rattle.std.specs.Prelude.{◌≡◌, ℕ, ◌+◌, ◌-◌, ◌<◌, max, ◌==◌, cond, List, [], ◌∷◌, ◌++◌, codes}
+use Rattle.std.specs.List.{All}
 use Rattle.plan_types.specs.declared.range.Range.{Range, size-Range}
 use Rattle.plan_types.specs.declared.range.Range.TheOpen.{Range-F, Any, Nothing, Equal, Prefix, AtLeast, Above, AtMost, Below, Major, Both, Either}
 use Rattle.plan_types.specs.declared.range.Range.TheFolds.{fold-Range}
@@ -63,6 +64,10 @@ abbrev pub IsSmaller : Range → Rest → Type 0
 IsSmaller range Close = Unit {0}
 IsSmaller range (And right) = size-Range right.now < size-Range range
 IsSmaller range (Or right) = size-Range right.now < size-Range range
+
+-- what is below a range stays below it
+abbrev pub StaySmaller : List Rest → List Rest → Type 0
+StaySmaller old new = (range : Range) → All (IsSmaller range) old → All (IsSmaller range) new
 
 -- the next body is written at its place: with parentheses if they are needed
 abbrev pub Opens : (List ℕ → List ℕ) → List ℕ → List Rest → List ℕ → List Rest → Type 0

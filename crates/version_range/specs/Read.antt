@@ -10,11 +10,14 @@ use Rattle.plan_types.specs.declared.refusal.Cause.TheVariants.{BadVersion, BadR
 use Rattle.plan_types.specs.Bytes.{begins_with}
 use Rattle.text_grammar.specs.Reading.{◌>>=◌, skip_blanks, byte_after, chained}
 use Rattle.text_grammar.specs.Reading as reading
+use Rattle.version_range.specs.declared.merge.Connective.{Connective}
+use Rattle.version_range.specs.declared.merge.Connective.TheVariants as joints
 use Rattle.version_range.specs.declared.operator.Operator.{Operator}
 use Rattle.version_range.specs.declared.operator.Operator.TheVariants.{Equal, AtLeast, Above, AtMost, Below, Major}
 use Rattle.version_range.specs.Version.{number_after}
 use Rattle.plan_types.specs.Format.{is_old}
 use Rattle.version_range.specs.Grammar.{of_version, has_sets}
+use Rattle.version_range.specs.Cuts.{joined_range}
 
 -- the cause at the first byte of the rest
 abbrev pub cause_at : Spec → Cause → List ℕ → Cause
@@ -108,18 +111,22 @@ equal_at spec text = do
 unfoldable pub compared_at : Operator → Spec → List ℕ → Result (Range × List ℕ) Cause
 compared_at op spec text = version_at false spec text >>= λ v. Ok (of_version op v.0, v.1)
 
+-- the version after an operator, or after `==` its prefix and `.*`
+abbrev pub plain_at : Operator → Spec → List ℕ → Result (Range × List ℕ) Cause
+plain_at op spec text = elim op [
+  | Equal ↦ equal_at spec text
+  | AtLeast ↦ compared_at AtLeast spec text
+  | Above ↦ compared_at Above spec text
+  | AtMost ↦ compared_at AtMost spec text
+  | Below ↦ compared_at Below spec text
+  | Major ↦ compared_at Major spec text
+]
+
 -- the operand after an operator
 unfoldable pub operand_at : Operator → Spec → List ℕ → Result (Range × List ℕ) Cause
 operand_at op spec text =
     if has_sets op spec && begins_with 123 text then byte_due spec 123 text >>= set_at op spec
-    else elim op [
-      | Equal ↦ equal_at spec text
-      | AtLeast ↦ compared_at AtLeast spec text
-      | Above ↦ compared_at Above spec text
-      | AtMost ↦ compared_at AtMost spec text
-      | Below ↦ compared_at Below spec text
-      | Major ↦ compared_at Major spec text
-    ]
+    else plain_at op spec text
 
 -- `any` or `none`
 unfoldable pub word_at : Spec → List ℕ → Result (Range × List ℕ) Cause
@@ -155,6 +162,24 @@ term_at inside spec text = factor_at inside spec (skip_blanks text) >>= chained 
 -- terms joined by `||`
 unfoldable pub range_in : (List ℕ → Result (Range × List ℕ) Cause) → Spec → List ℕ → Result (Range × List ℕ) Cause
 range_in inside spec text = term_at inside spec text >>= chained ranges.Either (next_at (term_at inside spec) spec 124)
+
+-- the byte that stands twice between parts
+abbrev pub joint_byte : Connective → ℕ
+joint_byte joints.Both = 38
+joint_byte joints.Either = 124
+
+-- a part of a chain: a factor, or a term
+abbrev pub part_at : Connective → (List ℕ → Result (Range × List ℕ) Cause) → Spec → List ℕ → Result (Range × List ℕ) Cause
+part_at joints.Both inside spec text = factor_at inside spec (skip_blanks text)
+part_at joints.Either inside spec text = term_at inside spec text
+
+-- the next part of a chain
+abbrev pub next_part : Connective → (List ℕ → Result (Range × List ℕ) Cause) → Spec → List ℕ → Result (Option (Range × List ℕ)) Cause
+next_part joint inside spec = next_at (part_at joint inside spec) spec (joint_byte joint)
+
+-- a chain of parts: a term, or terms
+abbrev pub chain_at : Connective → (List ℕ → Result (Range × List ℕ) Cause) → Spec → List ℕ → Result (Range × List ℕ) Cause
+chain_at joint inside spec text = part_at joint inside spec text >>= chained (joined_range joint) (next_part joint inside spec)
 
 -- a range in parentheses, with at most so many open, this one included
 unfoldable pub inside : ℕ → Spec → List ℕ → Result (Range × List ℕ) Cause

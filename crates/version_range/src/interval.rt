@@ -5,7 +5,7 @@ ghost use Rattle.std.specs.Ordering.{is_eq, is_ge, is_gt, is_le, is_lt};
 ghost use Rattle.plan_types.specs.declared.version.Version.{Version};
 ghost use Rattle.plan_types.specs.Members.{order, major_end};
 ghost use Rattle.version_range.specs.Version.{IsVersion};
-ghost use Rattle.version_range.specs.Cuts.{inside, are_ends, is_below, prefix_end, HasNumbers};
+ghost use Rattle.version_range.specs.Cuts.{inside, are_ends, is_below, prefix_end, HasNumbers, AreEndsOf};
 
 use plan_types::{List, NoMemory, Version};
 use std::alloc::Global;
@@ -90,8 +90,7 @@ fn pair(alloc: Global, a: u32, b: u32) -> Result<Version, NoMemory>
 
 /// The ends of `-any`. The functions below give those of each operator.
 pub fn any(alloc: Global) -> Result<List<Version>, NoMemory>
-    ensures ends { IfOk result (λ ends. are_ends ends ≡ true) }
-    ensures members { IfOk result (λ ends. (v : Version) → HasNumbers v → inside ends v ≡ true) }
+    ensures { IfOk result (AreEndsOf (λ v. true)) }
 {
     let low = least(alloc)?;
     from(alloc, low)
@@ -99,9 +98,7 @@ pub fn any(alloc: Global) -> Result<List<Version>, NoMemory>
 
 pub fn equal(alloc: Global, x: &Version) -> Result<List<Version>, NoMemory>
     requires { IsVersion x.now.parts }
-    ensures ends { IfOk result (λ ends. are_ends ends ≡ true) }
-    ensures members { IfOk result (λ ends. (v : Version) → HasNumbers v
-        → inside ends v ≡ is_eq (order v.parts x.now.parts)) }
+    ensures { IfOk result (AreEndsOf (λ v. is_eq (order v.parts x.now.parts))) }
 {
     let low = x.copy(alloc)?;
     let high = next(alloc, x)?;
@@ -110,9 +107,7 @@ pub fn equal(alloc: Global, x: &Version) -> Result<List<Version>, NoMemory>
 
 pub fn prefix(alloc: Global, x: &Version) -> Result<List<Version>, NoMemory>
     requires { IsVersion x.now.parts }
-    ensures ends { IfOk result (λ ends. are_ends ends ≡ true) }
-    ensures members { IfOk result (λ ends. (v : Version) → HasNumbers v
-        → inside ends v ≡ starts_with nat_eq v.parts x.now.parts) }
+    ensures { IfOk result (AreEndsOf (λ v. starts_with nat_eq v.parts x.now.parts)) }
 {
     let low = x.copy(alloc)?;
     let high = after_prefix(alloc, x)?;
@@ -121,9 +116,7 @@ pub fn prefix(alloc: Global, x: &Version) -> Result<List<Version>, NoMemory>
 
 pub fn at_least(alloc: Global, x: &Version) -> Result<List<Version>, NoMemory>
     requires { IsVersion x.now.parts }
-    ensures ends { IfOk result (λ ends. are_ends ends ≡ true) }
-    ensures members { IfOk result (λ ends. (v : Version) → HasNumbers v
-        → inside ends v ≡ is_ge (order v.parts x.now.parts)) }
+    ensures { IfOk result (AreEndsOf (λ v. is_ge (order v.parts x.now.parts))) }
 {
     let low = x.copy(alloc)?;
     from(alloc, low)
@@ -131,9 +124,7 @@ pub fn at_least(alloc: Global, x: &Version) -> Result<List<Version>, NoMemory>
 
 pub fn above(alloc: Global, x: &Version) -> Result<List<Version>, NoMemory>
     requires { IsVersion x.now.parts }
-    ensures ends { IfOk result (λ ends. are_ends ends ≡ true) }
-    ensures members { IfOk result (λ ends. (v : Version) → HasNumbers v
-        → inside ends v ≡ is_gt (order v.parts x.now.parts)) }
+    ensures { IfOk result (AreEndsOf (λ v. is_gt (order v.parts x.now.parts))) }
 {
     let low = next(alloc, x)?;
     from(alloc, low)
@@ -141,9 +132,7 @@ pub fn above(alloc: Global, x: &Version) -> Result<List<Version>, NoMemory>
 
 pub fn at_most(alloc: Global, x: &Version) -> Result<List<Version>, NoMemory>
     requires { IsVersion x.now.parts }
-    ensures ends { IfOk result (λ ends. are_ends ends ≡ true) }
-    ensures members { IfOk result (λ ends. (v : Version) → HasNumbers v
-        → inside ends v ≡ is_le (order v.parts x.now.parts)) }
+    ensures { IfOk result (AreEndsOf (λ v. is_le (order v.parts x.now.parts))) }
 {
     let low = least(alloc)?;
     let high = next(alloc, x)?;
@@ -152,9 +141,7 @@ pub fn at_most(alloc: Global, x: &Version) -> Result<List<Version>, NoMemory>
 
 pub fn below(alloc: Global, x: &Version) -> Result<List<Version>, NoMemory>
     requires { IsVersion x.now.parts }
-    ensures ends { IfOk result (λ ends. are_ends ends ≡ true) }
-    ensures members { IfOk result (λ ends. (v : Version) → HasNumbers v
-        → inside ends v ≡ is_lt (order v.parts x.now.parts)) }
+    ensures { IfOk result (AreEndsOf (λ v. is_lt (order v.parts x.now.parts))) }
 {
     let low = least(alloc)?;
     if low.compare(x).is_lt() {
@@ -167,9 +154,7 @@ pub fn below(alloc: Global, x: &Version) -> Result<List<Version>, NoMemory>
 
 pub fn major(alloc: Global, x: &Version) -> Result<List<Version>, NoMemory>
     requires { IsVersion x.now.parts }
-    ensures ends { IfOk result (λ ends. are_ends ends ≡ true) }
-    ensures members { IfOk result (λ ends. (v : Version) → HasNumbers v
-        → inside ends v ≡ (is_ge (order v.parts x.now.parts)
+    ensures { IfOk result (AreEndsOf (λ v. is_ge (order v.parts x.now.parts)
         && is_lt (order v.parts (major_end x.now.parts)))) }
 {
     let low = x.copy(alloc)?;

@@ -3,7 +3,7 @@ ghost use Rattle.std.specs.Prelude.{◌≡◌, ◌++◌, [], IfOk, OnOk, codes};
 ghost use Rattle.std.specs.List.{All};
 ghost use Rattle.plan_types.specs.declared.range.Range.{Range};
 ghost use Rattle.version_range.specs.Version.{version_text};
-ghost use Rattle.version_range.specs.Print.{text_in, range_text, as_term, as_whole, enclosed, rests_text, IsSmaller, Opens};
+ghost use Rattle.version_range.specs.Print.{text_in, range_text, as_term, as_whole, enclosed, rests_text, IsSmaller, StaySmaller, Opens};
 
 use crate::version::push_version;
 use plan_types::{NoMemory, Range, Text, Version};
@@ -106,8 +106,7 @@ fn push_left<'a>(
 
 fn open_term(text: &mut Text, rests: &mut Vec<Rest>, place: RangePlace) -> Result<(), NoMemory>
     ensures text { OnOk result (Opens (as_term place) text.old rests.old.items text.new rests.new.items) }
-    ensures smaller { OnOk result ((range : Range) → All (IsSmaller range) rests.old.items
-        → All (IsSmaller range) rests.new.items) }
+    ensures smaller { OnOk result (StaySmaller rests.old.items rests.new.items) }
 {
     match place {
         RangePlace::Whole => Ok(()),
@@ -118,8 +117,7 @@ fn open_term(text: &mut Text, rests: &mut Vec<Rest>, place: RangePlace) -> Resul
 
 fn open_whole(text: &mut Text, rests: &mut Vec<Rest>, place: RangePlace) -> Result<(), NoMemory>
     ensures text { OnOk result (Opens (as_whole place) text.old rests.old.items text.new rests.new.items) }
-    ensures smaller { OnOk result ((range : Range) → All (IsSmaller range) rests.old.items
-        → All (IsSmaller range) rests.new.items) }
+    ensures smaller { OnOk result (StaySmaller rests.old.items rests.new.items) }
 {
     match place {
         RangePlace::Whole => Ok(()),
@@ -130,8 +128,7 @@ fn open_whole(text: &mut Text, rests: &mut Vec<Rest>, place: RangePlace) -> Resu
 
 fn open(text: &mut Text, rests: &mut Vec<Rest>) -> Result<(), NoMemory>
     ensures text { OnOk result (Opens enclosed text.old rests.old.items text.new rests.new.items) }
-    ensures smaller { OnOk result ((range : Range) → All (IsSmaller range) rests.old.items
-        → All (IsSmaller range) rests.new.items) }
+    ensures smaller { OnOk result (StaySmaller rests.old.items rests.new.items) }
 {
     text.push_str("(")?;
     rests.push(Rest::Close)?;

@@ -6,10 +6,12 @@ ghost use Rattle.plan_types.specs.declared.refusal.Cause.{Cause};
 ghost use Rattle.version_range.specs.Version.{has_versions};
 ghost use Rattle.plan_types.specs.Refusal.{Refuses};
 ghost use Rattle.version_range.specs.Grammar.{Stands, FirstFault};
-ghost use Rattle.version_range.specs.Read.{followed, number_at, next_number, version_at, next_member, set_at, equal_at, compared_at, operand_at, word_at, operator_at, either_at, factor_at, behind, next_at, term_at, range_in, inside, range_of};
+ghost use Rattle.version_range.specs.Read.{followed, number_at, next_number, version_at, next_member, set_at, equal_at, compared_at, operand_at, word_at, operator_at, either_at, factor_at, behind, joint_byte, part_at, next_part, chain_at, range_in, inside, range_of};
+ghost use Rattle.version_range.specs.Cuts.{joined_range};
 ghost use Rattle.text_grammar.specs.Reading.{Gives, chained, skip_blanks};
 
 use crate::bytes::{byte_due, fault_at};
+use crate::merge::Connective;
 use crate::number::number_at;
 use crate::operator::Operator;
 use plan_types::{Boxed, Cause, List, NoMemory, Range, Spec, TextFault, Version};
@@ -140,22 +142,21 @@ fn members_after(
     let mut left = first;
     let mut rest = text;
     while let Some((right, more)) = next_member(alloc, op, spec, rest)? {
-        left = either(alloc, left, right)?;
+        left = join(alloc, Connective::Either, left, right)?;
         rest = more;
     }
     Ok((left, rest))
 }
 
-fn either(alloc: Global, left: Range, right: Range) -> Result<Range, NoMemory>
-    ensures { IfOk result (λ r. r ≡ Range.Either left right) }
+fn join(alloc: Global, joint: Connective, left: Range, right: Range) -> Result<Range, NoMemory>
+    ensures { IfOk result (λ r. r ≡ joined_range joint left right) }
 {
-    Ok(Range::Either(Boxed::new(alloc, left)?, Boxed::new(alloc, right)?))
-}
-
-fn both(alloc: Global, left: Range, right: Range) -> Result<Range, NoMemory>
-    ensures { IfOk result (λ r. r ≡ Range.Both left right) }
-{
-    Ok(Range::Both(Boxed::new(alloc, left)?, Boxed::new(alloc, right)?))
+    let left = Boxed::new(alloc, left)?;
+    let right = Boxed::new(alloc, right)?;
+    match joint {
+        Connective::Both => Ok(Range::Both(left, right)),
+        Connective::Either => Ok(Range::Either(left, right)),
+    }
 }
 
 // A set, after its opening brace.
@@ -243,6 +244,15 @@ fn word_at(spec: Spec, text: &[u8]) -> Result<(Range, &[u8]), TextFault>
     Ok((Range::Nothing, rest))
 }
 
+fn joint_byte(joint: Connective) -> u8
+    ensures { result ≡ joint_byte joint }
+{
+    match joint {
+        Connective::Both => b'&',
+        Connective::Either => b'|',
+    }
+}
+
 // The rest after `&&` or `||`; none if its first byte is missing.
 fn behind(spec: Spec, text: &[u8], byte: u8) -> Result<Option<&[u8]>, TextFault>
     ensures gives { Gives (option_map (λ rest. rest.now)) result (behind spec byte text.now) }
@@ -285,91 +295,78 @@ fn factor_at(alloc: Global, spec: Spec, room: u32, text: &[u8]) -> Result<(Range
     operand_at(alloc, op, spec, skip_blanks(rest))
 }
 
-#[cycle(reading)]
-fn next_factor(
-    alloc: Global,
-    spec: Spec,
-    room: u32,
-    text: &[u8],
-) -> Result<Option<(Range, &[u8])>, TextFault>
-    ensures gives { Gives (option_map (λ p. (p.0, p.1.now))) result
-        (next_at (λ t. factor_at (inside room spec) spec (skip_blanks t)) spec 38 text.now) }
-    ensures within { IfOk result (λ found. IfSome found (λ p. length p.1.now < length text.now)) }
-{
-    match behind(spec, text, b'&')? {
-        None => Ok(None),
-        Some(rest) => Ok(Some(factor_at(alloc, spec, room, skip_blanks(rest))?)),
-    }
-}
-
-#[cycle(reading)]
-fn factors_after(
-    alloc: Global,
-    spec: Spec,
-    room: u32,
-    first: Range,
-    text: &[u8],
-) -> Result<(Range, &[u8]), TextFault>
-    ensures gives { Gives (λ p. (p.0, p.1.now)) result
-        (chained Range.Both (next_at (λ t. factor_at (inside room spec) spec (skip_blanks t)) spec 38)
-        (first, text.now)) }
-    ensures within { IfOk result (λ p. length p.1.now ≤ length text.now) }
-{
-    let mut left = first;
-    let mut rest = text;
-    while let Some((right, more)) = next_factor(alloc, spec, room, rest)? {
-        left = both(alloc, left, right)?;
-        rest = more;
-    }
-    Ok((left, rest))
-}
-
+// A factor, or a term of factors.
 #[cycle(reading)]
 #[tactic(auto, unfolding(crate::specs::Read::term_at))]
-fn term_at(alloc: Global, spec: Spec, room: u32, text: &[u8]) -> Result<(Range, &[u8]), TextFault>
-    ensures gives { Gives (λ p. (p.0, p.1.now)) result (term_at (inside room spec) spec text.now) }
-    ensures within { IfOk result (λ p. length p.1.now < length text.now) }
-{
-    let (first, rest) = factor_at(alloc, spec, room, skip_blanks(text))?;
-    factors_after(alloc, spec, room, first, rest)
-}
-
-#[cycle(reading)]
-fn next_term(
+fn part_at(
     alloc: Global,
     spec: Spec,
     room: u32,
+    joint: Connective,
     text: &[u8],
-) -> Result<Option<(Range, &[u8])>, TextFault>
-    ensures gives { Gives (option_map (λ p. (p.0, p.1.now))) result
-        (next_at (term_at (inside room spec) spec) spec 124 text.now) }
-    ensures within { IfOk result (λ found. IfSome found (λ p. length p.1.now < length text.now)) }
+) -> Result<(Range, &[u8]), TextFault>
+    ensures gives { Gives (λ p. (p.0, p.1.now)) result (part_at joint (inside room spec) spec text.now) }
+    ensures within { IfOk result (λ p. length p.1.now < length text.now) }
 {
-    match behind(spec, text, b'|')? {
-        None => Ok(None),
-        Some(rest) => Ok(Some(term_at(alloc, spec, room, rest)?)),
+    match joint {
+        Connective::Both => factor_at(alloc, spec, room, skip_blanks(text)),
+        Connective::Either => chain_at(alloc, spec, room, Connective::Both, text),
     }
 }
 
 #[cycle(reading)]
-fn terms_after(
+fn next_part(
     alloc: Global,
     spec: Spec,
     room: u32,
+    joint: Connective,
+    text: &[u8],
+) -> Result<Option<(Range, &[u8])>, TextFault>
+    ensures gives { Gives (option_map (λ p. (p.0, p.1.now))) result
+        (next_part joint (inside room spec) spec text.now) }
+    ensures within { IfOk result (λ found. IfSome found (λ p. length p.1.now < length text.now)) }
+{
+    match behind(spec, text, joint_byte(joint))? {
+        None => Ok(None),
+        Some(rest) => Ok(Some(part_at(alloc, spec, room, joint, rest)?)),
+    }
+}
+
+#[cycle(reading)]
+fn parts_after(
+    alloc: Global,
+    spec: Spec,
+    room: u32,
+    joint: Connective,
     first: Range,
     text: &[u8],
 ) -> Result<(Range, &[u8]), TextFault>
     ensures gives { Gives (λ p. (p.0, p.1.now)) result
-        (chained Range.Either (next_at (term_at (inside room spec) spec) spec 124) (first, text.now)) }
+        (chained (joined_range joint) (next_part joint (inside room spec) spec) (first, text.now)) }
     ensures within { IfOk result (λ p. length p.1.now ≤ length text.now) }
 {
     let mut left = first;
     let mut rest = text;
-    while let Some((right, more)) = next_term(alloc, spec, room, rest)? {
-        left = either(alloc, left, right)?;
+    while let Some((right, more)) = next_part(alloc, spec, room, joint, rest)? {
+        left = join(alloc, joint, left, right)?;
         rest = more;
     }
     Ok((left, rest))
+}
+
+#[cycle(reading)]
+fn chain_at(
+    alloc: Global,
+    spec: Spec,
+    room: u32,
+    joint: Connective,
+    text: &[u8],
+) -> Result<(Range, &[u8]), TextFault>
+    ensures gives { Gives (λ p. (p.0, p.1.now)) result (chain_at joint (inside room spec) spec text.now) }
+    ensures within { IfOk result (λ p. length p.1.now < length text.now) }
+{
+    let (first, rest) = part_at(alloc, spec, room, joint, text)?;
+    parts_after(alloc, spec, room, joint, first, rest)
 }
 
 #[cycle(reading)]
@@ -378,8 +375,7 @@ fn range_in(alloc: Global, spec: Spec, room: u32, text: &[u8]) -> Result<(Range,
     ensures gives { Gives (λ p. (p.0, p.1.now)) result (range_in (inside room spec) spec text.now) }
     ensures within { IfOk result (λ p. length p.1.now < length text.now) }
 {
-    let (first, rest) = term_at(alloc, spec, room, text)?;
-    terms_after(alloc, spec, room, first, rest)
+    chain_at(alloc, spec, room, Connective::Either, text)
 }
 
 /// Reads a range: terms joined by `||`, each of factors joined by `&&`, both left-associative. A text of blanks

@@ -1,29 +1,30 @@
 use Rattle.std.proofs.Common.{◌∙◌}
 use Rattle.std.proofs.lemmas.Result.{IfOk-weaker}
 use Rattle.version_range.proofs.Joined.{takes_next, takes_last}
-use Rattle.version_range.proofs.Operators.{version_Equal, version_Prefix, version_AtLeast, version_Above, version_AtMost, version_Below, version_Major}
+use Rattle.version_range.specs.declared.operator.Operator.TheVariants as operators
+use Rattle.version_range.proofs.Operators.{version_compared, version_prefix}
 use Rattle.version_range.proofs.cuts.+cuts.Goals as goal
 
 pub Cuts::of-equal-requires : goal.Cuts::of-equal-requires
-Cuts::of-equal-requires t c = version_Equal c.args.range.now c.in-Equal.x c.requires c.in-Equal.is
+Cuts::of-equal-requires t c = version_compared c.args.range.now c.in-Equal.x c.requires operators.Equal c.in-Equal.is
 
 pub Cuts::of-prefix-requires : goal.Cuts::of-prefix-requires
-Cuts::of-prefix-requires t c = version_Prefix c.args.range.now c.in-Prefix.x c.requires c.in-Prefix.is
+Cuts::of-prefix-requires t c = version_prefix c.args.range.now c.in-Prefix.x c.requires c.in-Prefix.is
 
 pub Cuts::of-at_least-requires : goal.Cuts::of-at_least-requires
-Cuts::of-at_least-requires t c = version_AtLeast c.args.range.now c.in-AtLeast.x c.requires c.in-AtLeast.is
+Cuts::of-at_least-requires t c = version_compared c.args.range.now c.in-AtLeast.x c.requires operators.AtLeast c.in-AtLeast.is
 
 pub Cuts::of-above-requires : goal.Cuts::of-above-requires
-Cuts::of-above-requires t c = version_Above c.args.range.now c.in-Above.x c.requires c.in-Above.is
+Cuts::of-above-requires t c = version_compared c.args.range.now c.in-Above.x c.requires operators.Above c.in-Above.is
 
 pub Cuts::of-at_most-requires : goal.Cuts::of-at_most-requires
-Cuts::of-at_most-requires t c = version_AtMost c.args.range.now c.in-AtMost.x c.requires c.in-AtMost.is
+Cuts::of-at_most-requires t c = version_compared c.args.range.now c.in-AtMost.x c.requires operators.AtMost c.in-AtMost.is
 
 pub Cuts::of-below-requires : goal.Cuts::of-below-requires
-Cuts::of-below-requires t c = version_Below c.args.range.now c.in-Below.x c.requires c.in-Below.is
+Cuts::of-below-requires t c = version_compared c.args.range.now c.in-Below.x c.requires operators.Below c.in-Below.is
 
 pub Cuts::of-major-requires : goal.Cuts::of-major-requires
-Cuts::of-major-requires t c = version_Major c.args.range.now c.in-Major.x c.requires c.in-Major.is
+Cuts::of-major-requires t c = version_compared c.args.range.now c.in-Major.x c.requires operators.Major c.in-Major.is
 
 pub chain-loop-left-preserved : goal.chain-loop-left-preserved
 chain-loop-left-preserved t c =

@@ -1,7 +1,5 @@
-use Rattle.std.proofs.Common.{◌∙◌}
-use Rattle.std.proofs.lemmas.Result.{IfOk-weaker}
-use Rattle.version_range.proofs.Intervals.{any_is}
+use Rattle.version_range.proofs.Intervals.{ends_of, any_is}
 use Rattle.version_range.proofs.interval.any.Goals as goal
 
-pub returns-clause-members : goal.returns-clause-members
-returns-clause-members c = IfOk-weaker c.from.result _ _ (λ ends h v n. h v ∙ any_is c.in_ok-low.low v c.in_ok-low.ensures n) c.from.ensures.members
+pub returns : goal.returns
+returns c = ends_of c.from.result _ _ c.from.ensures.ends c.from.ensures.members (λ v n. any_is c.in_ok-low.low v c.in_ok-low.ensures n)

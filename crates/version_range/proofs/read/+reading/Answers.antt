@@ -1,58 +1,11 @@
-use Rattle.std.proofs.Common.{◌+◌, ◌<◌, Ok, length, ap, ◌∙◌, subst, arith}
-use Rattle.std.specs.Option.{option_map, IfSome}
-use Rattle.std.proofs.lemmas.Result.{err_from_is_err_and}
-use Rattle.plan_types.specs.declared.range.Range.TheVariants.{Both, Either}
-use Rattle.version_range.specs.Read.{factor_at, term_at, inside, next_at}
-use Rattle.text_grammar.specs.Reading.{chain, skip_blanks}
-use Rattle.text_grammar.proofs.Chains.{goes_on, ends, is_done}
+use Rattle.version_range.proofs.ChainLoops.{reads_on, reads_all, reads_fault}
 use Rattle.version_range.proofs.read.+reading.Goals as goal
 
-pub factors_after-returns-in_err-right-clause-gives : goal.factors_after-returns-in_err-right-clause-gives
-factors_after-returns-in_err-right-clause-gives t c =
-    let next = next_at (λ b. factor_at (inside c.args.room c.args.spec) c.args.spec (skip_blanks b)) c.args.spec 38 in
-    let whole = chain Both next (length c.args.text.now + 1) c.args.first c.args.text.now in
-    let p = err_from_is_err_and c.from_residual.result c.from_residual.ensures.1 in
-    rw (p.1, p.2) (ends Both next c.in_err-right.field-0.0 c.loop-right.left c.loop-right.rest.now whole c.loop-right.invariant.goes c.in_err-right.ensures.gives)
+pub parts_after-returns-in_err-right-clause-gives : goal.parts_after-returns-in_err-right-clause-gives
+parts_after-returns-in_err-right-clause-gives t c = reads_fault c.loop-right.invariant _ _ _ c.from_residual.ensures.1 c.in_err-right.ensures.gives
 
-pub factors_after-loop-right-preserved : goal.factors_after-loop-right-preserved
-factors_after-loop-right-preserved t c =
-    let next = next_at (λ b. factor_at (inside c.args.room c.args.spec) c.args.spec (skip_blanks b)) c.args.spec 38 in
-    let whole = chain Both next (length c.args.text.now + 1) c.args.first c.args.text.now in
-    let less = subst (λ o. IfSome o (λ p. length p.1.now < length c.loop-right.rest.now)) c.in-Some.is c.in_ok-right.ensures.within in
-    let found = c.in_ok-right.ensures.gives ∙ ap (λ o. Ok (option_map (λ p. (p.0, p.1.now)) o)) c.in-Some.is in
-    let goes = goes_on Both next c.loop-right.left c.loop-right.rest.now whole c.in-Some.right c.in-Some.more.now c.loop-right.invariant.goes found less in
-    record {
-      goes = rw c.in_ok-left.ensures goes;
-      within = omega (arith, less, c.loop-right.invariant.within);
-    }
+pub parts_after-loop-right-preserved : goal.parts_after-loop-right-preserved
+parts_after-loop-right-preserved t c = reads_on c.loop-right.invariant _ _ _ _ c.in_ok-right.ensures.gives c.in_ok-right.ensures.within c.in-Some.is c.in_ok-left.ensures
 
-pub factors_after-returns-clause-gives : goal.factors_after-returns-clause-gives
-factors_after-returns-clause-gives t c =
-    let next = next_at (λ b. factor_at (inside c.args.room c.args.spec) c.args.spec (skip_blanks b)) c.args.spec 38 in
-    let whole = chain Both next (length c.args.text.now + 1) c.args.first c.args.text.now in
-    is_done Both next c.loop-right.left c.loop-right.rest.now whole c.loop-right.invariant.goes (c.in_ok-right.ensures.gives ∙ ap (λ o. Ok (option_map (λ p. (p.0, p.1.now)) o)) c.in_default.is)
-
-pub terms_after-returns-in_err-right-clause-gives : goal.terms_after-returns-in_err-right-clause-gives
-terms_after-returns-in_err-right-clause-gives t c =
-    let next = next_at (term_at (inside c.args.room c.args.spec) c.args.spec) c.args.spec 124 in
-    let whole = chain Either next (length c.args.text.now + 1) c.args.first c.args.text.now in
-    let p = err_from_is_err_and c.from_residual.result c.from_residual.ensures.1 in
-    rw (p.1, p.2) (ends Either next c.in_err-right.field-0.0 c.loop-right.left c.loop-right.rest.now whole c.loop-right.invariant.goes c.in_err-right.ensures.gives)
-
-pub terms_after-loop-right-preserved : goal.terms_after-loop-right-preserved
-terms_after-loop-right-preserved t c =
-    let next = next_at (term_at (inside c.args.room c.args.spec) c.args.spec) c.args.spec 124 in
-    let whole = chain Either next (length c.args.text.now + 1) c.args.first c.args.text.now in
-    let less = subst (λ o. IfSome o (λ p. length p.1.now < length c.loop-right.rest.now)) c.in-Some.is c.in_ok-right.ensures.within in
-    let found = c.in_ok-right.ensures.gives ∙ ap (λ o. Ok (option_map (λ p. (p.0, p.1.now)) o)) c.in-Some.is in
-    let goes = goes_on Either next c.loop-right.left c.loop-right.rest.now whole c.in-Some.right c.in-Some.more.now c.loop-right.invariant.goes found less in
-    record {
-      goes = rw c.in_ok-left.ensures goes;
-      within = omega (arith, less, c.loop-right.invariant.within);
-    }
-
-pub terms_after-returns-clause-gives : goal.terms_after-returns-clause-gives
-terms_after-returns-clause-gives t c =
-    let next = next_at (term_at (inside c.args.room c.args.spec) c.args.spec) c.args.spec 124 in
-    let whole = chain Either next (length c.args.text.now + 1) c.args.first c.args.text.now in
-    is_done Either next c.loop-right.left c.loop-right.rest.now whole c.loop-right.invariant.goes (c.in_ok-right.ensures.gives ∙ ap (λ o. Ok (option_map (λ p. (p.0, p.1.now)) o)) c.in_default.is)
+pub parts_after-returns-clause-gives : goal.parts_after-returns-clause-gives
+parts_after-returns-clause-gives t c = reads_all c.loop-right.invariant _ _ c.in_ok-right.ensures.gives c.in_default.is
