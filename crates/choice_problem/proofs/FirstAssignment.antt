@@ -66,24 +66,13 @@ module _ (g : General) (lawful : LawfulGeneral g) where
             absurd (false≢true (subst (λ x. is_one_of x r.allowed ≡ true) (ap A o.target ∙ e) met))
       ] refl
 
-  -- the trails differ after a common prefix, and the value of A is the earlier one
-  record Parts (A B : Assignment) (of_trail of_other : List Choice) : Type 0 where
-    common : List Choice
-    var : Var
-    of_A : ℕ
-    of_B : ℕ
-    rest_of_A : List Choice
-    rest_of_B : List Choice
-    trail_of_A : of_trail ≡ common ++ choice_of var of_A ∷ rest_of_A
-    trail_of_B : of_other ≡ common ++ choice_of var of_B ∷ rest_of_B
-    earlier : IsEarlier (g.order var common) of_A of_B
+  -- two trails are the same, or one of the assignments comes before the other
+  abbrev Compared : Assignment → Assignment → Type 0
+  Compared A B = (trail_of g A ≡ trail_of g B) ⊎ (ComesBefore g A B ⊎ ComesBefore g B A)
 
-  abbrev Compared : Assignment → Assignment → List Choice → List Choice → Type 0
-  Compared A B s t = (s ≡ t) ⊎ (Parts A B s t ⊎ Parts B A t s)
-
-  parts-at : (A B : Assignment) (fuel : ℕ) (trail : List Choice) (v : Var) (a b : ℕ) → next_var g trail ≡ Some v → A v ≡ Some a → B v ≡ Some b → IsEarlier (g.order v trail) a b
-      → Parts A B (trail_from (suc fuel) g A trail) (trail_from (suc fuel) g B trail)
-  parts-at A B fuel trail v a b next of_A of_B earlier =
+  before-at : (A B : Assignment) (fuel : ℕ) (trail : List Choice) (v : Var) (a b : ℕ) → trail_from (suc fuel) g A trail ≡ trail_of g A → trail_from (suc fuel) g B trail ≡ trail_of g B
+      → next_var g trail ≡ Some v → A v ≡ Some a → B v ≡ Some b → IsEarlier (g.order v trail) a b → ComesBefore g A B
+  before-at A B fuel trail v a b on_A on_B next of_A of_B earlier =
       let more = trail-front g A fuel (trail ++ choice_of v a ∷ []) in
       let other = trail-front g B fuel (trail ++ choice_of v b ∷ []) in
       record {
@@ -93,62 +82,44 @@ module _ (g : General) (lawful : LawfulGeneral g) where
         of_B = b;
         rest_of_A = more.0;
         rest_of_B = other.0;
-        trail_of_A = trail-step g A fuel trail v a next of_A ∙ more.1 ∙ append_assoc trail (choice_of v a ∷ []) more.0;
-        trail_of_B = trail-step g B fuel trail v b next of_B ∙ other.1 ∙ append_assoc trail (choice_of v b ∷ []) other.0;
+        trail_of_A = sym on_A ∙ trail-step g A fuel trail v a next of_A ∙ more.1 ∙ append_assoc trail (choice_of v a ∷ []) more.0;
+        trail_of_B = sym on_B ∙ trail-step g B fuel trail v b next of_B ∙ other.1 ∙ append_assoc trail (choice_of v b ∷ []) other.0;
         earlier = earlier;
       }
 
   module _ (A B : Assignment) (valid_A : IsWholeValid g A) (valid_B : IsWholeValid g B) where
-    compared : (fuel : ℕ) (trail : List Choice) → Passes A trail → Passes B trail → trail_from fuel g A trail ≡ trail_of g A → trail_from fuel g B trail ≡ trail_of g B
-        → Compared A B (trail_from fuel g A trail) (trail_from fuel g B trail)
-    compared zero trail passes_A passes_B on_A on_B = inl refl
+    compared : (fuel : ℕ) (trail : List Choice) → Passes A trail → Passes B trail → trail_from fuel g A trail ≡ trail_of g A → trail_from fuel g B trail ≡ trail_of g B → Compared A B
+    compared zero trail passes_A passes_B on_A on_B = inl (sym on_A ∙ on_B)
     compared (suc fuel) trail passes_A passes_B on_A on_B =
-        elim (next_var g trail) as (λ o. next_var g trail ≡ o → Compared A B (trail_from (suc fuel) g A trail) (trail_from (suc fuel) g B trail)) [
-          | None ↦ λ next. inl (trail-end g A fuel trail next ∙ sym (trail-end g B fuel trail next))
+        elim (next_var g trail) as (λ o. next_var g trail ≡ o → Compared A B) [
+          | None ↦ λ next. inl (sym on_A ∙ trail-end g A fuel trail next ∙ sym (trail-end g B fuel trail next) ∙ on_B)
           | Some v ↦ λ next.
               let made_A = whole-next A fuel trail v valid_A passes_A on_A next in
               let made_B = whole-next B fuel trail v valid_B passes_B on_B next in
               let a = made_A.0 in
               let b = made_B.0 in
-              elim (nat_eq a b) as (λ t. nat_eq a b ≡ t → Compared A B (trail_from (suc fuel) g A trail) (trail_from (suc fuel) g B trail)) [
+              elim (nat_eq a b) as (λ t. nat_eq a b ≡ t → Compared A B) [
                 | true ↦ λ same.
                     let also = made_B.1 ∙ ap Some (sym (eqb-true a b same)) in
-                    let step_A = trail-step g A fuel trail v a next made_A.1 in
-                    let step_B = trail-step g B fuel trail v a next also in
-                    let rest = compared fuel (trail ++ choice_of v a ∷ []) (passes-push A trail (choice_of v a) passes_A made_A.1) (passes-push B trail (choice_of v a) passes_B also)
-                    (sym step_A ∙ on_A) (sym step_B ∙ on_B) in
-                    subst (λ s. Compared A B s (trail_from (suc fuel) g B trail)) (sym step_A)
-                    (subst (λ t. Compared A B (trail_from fuel g A (trail ++ choice_of v a ∷ [])) t) (sym step_B) rest)
+                    compared fuel (trail ++ choice_of v a ∷ []) (passes-push A trail (choice_of v a) passes_A made_A.1) (passes-push B trail (choice_of v a) passes_B also)
+                    (sym (trail-step g A fuel trail v a next made_A.1) ∙ on_A) (sym (trail-step g B fuel trail v a next also) ∙ on_B)
                 | false ↦ λ other.
                     let is_A = valid_A.holds.assignment.choice (choice_of v a) made_A.1 in
                     let is_B = valid_B.holds.assignment.choice (choice_of v b) made_B.1 in
                     let each = (lawful.order v is_A.variable trail (passes-choices g lawful g.known A valid_A.holds trail passes_A)).each in
                     elim (earlier-one (g.order v trail) a b (each a is_A.value) (each b is_B.value) (λ e. false≢true (sym other ∙ eq-eqb a b e))) [
-                      | inl i ↦ inr (inl (parts-at A B fuel trail v a b next made_A.1 made_B.1 i))
-                      | inr i ↦ inr (inr (parts-at B A fuel trail v b a next made_B.1 made_A.1 i))
+                      | inl i ↦ inr (inl (before-at A B fuel trail v a b on_A on_B next made_A.1 made_B.1 i))
+                      | inr i ↦ inr (inr (before-at B A fuel trail v b a on_B on_A next made_B.1 made_A.1 i))
                     ]
               ] refl
         ] refl
-
-  before-of : (A B : Assignment) → Parts A B (trail_of g A) (trail_of g B) → ComesBefore g A B
-  before-of A B parts = record {
-    common = parts.common;
-    var = parts.var;
-    of_A = parts.of_A;
-    of_B = parts.of_B;
-    rest_of_A = parts.rest_of_A;
-    rest_of_B = parts.rest_of_B;
-    trail_of_A = parts.trail_of_A;
-    trail_of_B = parts.trail_of_B;
-    earlier = parts.earlier;
-  }
 
   pub one-first : (A B : Assignment) → IsFirst g A → IsFirst g B → trail_of g A ≡ trail_of g B
   one-first A B first_A first_B =
       elim (compared A B first_A.whole_valid first_B.whole_valid g.bound [] (λ c k. absurd (contains-none c k)) (λ c k. absurd (contains-none c k)) refl refl) [
         | inl same ↦ same
-        | inr parts ↦ elim parts [
-          | inl front ↦ absurd (first_B.none_before A first_A.whole_valid (before-of A B front))
-          | inr back ↦ absurd (first_A.none_before B first_B.whole_valid (before-of B A back))
+        | inr before ↦ elim before [
+          | inl front ↦ absurd (first_B.none_before A first_A.whole_valid front)
+          | inr back ↦ absurd (first_A.none_before B first_B.whole_valid back)
         ]
       ]

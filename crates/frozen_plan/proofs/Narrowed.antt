@@ -14,7 +14,7 @@ use Rattle.choice_problem.specs.Problem.{IsChoice, IsDemand}
 use Rattle.choice_problem.specs.Trail.{choice_of, demands_after, next_var, open_vars, opens, trail_from, trail_of, value_in, with_next, with_value}
 use Rattle.choice_problem.specs.Twins.{must_agree}
 use Rattle.choice_problem.specs.Valid.{ComesBefore, IsEarlier, IsFirst, IsWholeValid}
-use Rattle.choice_problem.proofs.EquivalentProblems.{path-map}
+use Rattle.choice_problem.proofs.EquivalentProblems.{before-over, path-map}
 use Rattle.choice_problem.proofs.VariableSets.{set-alike}
 use Rattle.choice_problem.proofs.TrailLemmas.{targets_open}
 use Rattle.frozen_plan.specs.Narrower.{AddsNothing, BarsNoneOf, IsNarrowed, IsNarrower}
@@ -107,17 +107,7 @@ module _ (g h : General) (is : IsNarrower g h) where
   trails-alike A = trail_from-alike A g.bound [] ∙ ap (λ n. trail_from n h A []) is.bound
 
   before-back : (A B : Assignment) → ComesBefore h A B → ComesBefore g A B
-  before-back A B before = record {
-    common = before.common;
-    var = before.var;
-    of_A = before.of_A;
-    of_B = before.of_B;
-    rest_of_A = before.rest_of_A;
-    rest_of_B = before.rest_of_B;
-    trail_of_A = trails-alike A ∙ before.trail_of_A;
-    trail_of_B = trails-alike B ∙ before.trail_of_B;
-    earlier = subst (λ (order : Var → List Choice → List ℕ). IsEarlier (order before.var before.common) before.of_A before.of_B) (sym is.order) before.earlier;
-  }
+  before-back A B = before-over h g A B (trails-alike A) (trails-alike B) (sym is.order)
 
   -- ---- what holds
 
