@@ -220,7 +220,9 @@ pub(crate) fn has_benchmark(d: &Description) -> bool
     ensures { result ≡ has_kind is_benchmark d.now }
 {
     let components = d.components.as_slice();
-    components.iter().any(|component| is_benchmark(component.kind))
+    components
+        .iter()
+        .any(|component| is_benchmark(component.kind))
 }
 
 fn is_suite(kind: CompKind) -> bool
