@@ -25,7 +25,7 @@ valid-for : (picking : Picking) (index : Index) (settings : Settings) (names : N
 valid-for Least index settings names trail h = record { problem = h.problem; problem_is = h.problem_is; whole_valid = h.first.whole_valid }
 valid-for MostMet index settings names trail h = record { problem = h.problem; problem_is = h.problem_is; whole_valid = h.whole_valid }
 
-valid-over : (index : Index) (settings : Settings) (names : NameTable) (trail : List Choice) → IsSound settings.env index → AreThere settings.project.extra index
+abbrev valid-over : (index : Index) (settings : Settings) (names : NameTable) (trail : List Choice) → IsSound settings.env index → AreThere settings.project.extra index
     → IsValidFor index settings names trail → ValidAssignment
 valid-over index settings names trail sound there for = record {
   env = settings.env;
