@@ -73,7 +73,7 @@ fn behind(text: &[u8], byte: u8) -> Result<Option<&[u8]>, TextFault>
 
 // What the readers of a factor's parts share. `room` is how many more `(` and `!` may be open at once.
 #[derive(Clone, Copy)]
-pub struct Scope {
+pub struct Depth {
     alloc: Global,
     spec: Spec,
     room: u32,
@@ -82,88 +82,88 @@ pub struct Scope {
 // A factor, if any room is left. Each `(` and `!` around a factor takes one of `room`.
 #[cycle(reading)]
 #[tactic(auto, unfolding(crate::specs::Reading::opened_at))]
-fn inner_factor(scope: Scope, text: &[u8]) -> Result<(Cond, &[u8]), TextFault>
-    ensures gives { Gives (λ p. (p.0, p.1.now)) result (opened_at (cond_tail scope.spec 64) scope.room text.now) }
+fn inner_factor(depth: Depth, text: &[u8]) -> Result<(Cond, &[u8]), TextFault>
+    ensures gives { Gives (λ p. (p.0, p.1.now)) result (opened_at (cond_tail depth.spec 64) depth.room text.now) }
     ensures within { IfOk result (λ p. length p.1.now < length text.now) }
 {
-    if scope.room == 0 {
+    if depth.room == 0 {
         return Err(TextFault::Bad(Cause::TooDeep));
     }
-    let inner = Scope {
-        alloc: scope.alloc,
-        spec: scope.spec,
-        room: scope.room - 1,
+    let inner = Depth {
+        alloc: depth.alloc,
+        spec: depth.spec,
+        room: depth.room - 1,
     };
     factor_at(inner, text)
 }
 
 #[cycle(reading)]
 #[tactic(auto, unfolding(crate::specs::Reading::factor_at))]
-fn factor_at(scope: Scope, text: &[u8]) -> Result<(Cond, &[u8]), TextFault>
+fn factor_at(depth: Depth, text: &[u8]) -> Result<(Cond, &[u8]), TextFault>
     ensures gives { Gives (λ p. (p.0, p.1.now)) result
-        (factor_at (cond_tail scope.spec 64) (opened_at (cond_tail scope.spec 64) scope.room) text.now) }
+        (factor_at (cond_tail depth.spec 64) (opened_at (cond_tail depth.spec 64) depth.room) text.now) }
     ensures within { IfOk result (λ p. length p.1.now < length text.now) }
 {
     if let Some(rest) = byte_after(text, b'(') {
-        let (condition, rest) = chain_at(scope, Joint::Or, rest)?;
+        let (condition, rest) = chain_at(depth, Joint::Or, rest)?;
         let rest = closed(rest)?;
         return Ok((condition, rest));
     }
     if let Some(rest) = byte_after(text, b'!') {
-        let (condition, rest) = inner_factor(scope, skip_blanks(rest))?;
-        return Ok((negated(scope.alloc, condition)?, rest));
+        let (condition, rest) = inner_factor(depth, skip_blanks(rest))?;
+        return Ok((negated(depth.alloc, condition)?, rest));
     }
-    atom_at(scope.alloc, scope.spec, text)
+    atom_at(depth.alloc, depth.spec, text)
 }
 
 // A factor, or a term of factors.
 #[cycle(reading)]
-fn part_at(scope: Scope, joint: Joint, text: &[u8]) -> Result<(Cond, &[u8]), TextFault>
+fn part_at(depth: Depth, joint: Joint, text: &[u8]) -> Result<(Cond, &[u8]), TextFault>
     ensures gives { Gives (λ p. (p.0, p.1.now)) result
-        (part_at joint (opened_at (cond_tail scope.spec 64) scope.room) text.now) }
+        (part_at joint (opened_at (cond_tail depth.spec 64) depth.room) text.now) }
     ensures within { IfOk result (λ p. length p.1.now < length text.now) }
 {
     match joint {
-        Joint::And => inner_factor(scope, skip_blanks(text)),
-        Joint::Or => chain_at(scope, Joint::And, text),
+        Joint::And => inner_factor(depth, skip_blanks(text)),
+        Joint::Or => chain_at(depth, Joint::And, text),
     }
 }
 
 #[cycle(reading)]
-fn next_part(scope: Scope, joint: Joint, text: &[u8]) -> Result<Option<(Cond, &[u8])>, TextFault>
+fn next_part(depth: Depth, joint: Joint, text: &[u8]) -> Result<Option<(Cond, &[u8])>, TextFault>
     ensures gives { Gives (option_map (λ p. (p.0, p.1.now))) result
-        (next_part joint (opened_at (cond_tail scope.spec 64) scope.room) text.now) }
+        (next_part joint (opened_at (cond_tail depth.spec 64) depth.room) text.now) }
     ensures within { IfOk result (λ found. IfSome found (λ p. length p.1.now < length text.now)) }
 {
     match behind(text, joint.byte())? {
         None => Ok(None),
-        Some(rest) => Ok(Some(part_at(scope, joint, rest)?)),
+        Some(rest) => Ok(Some(part_at(depth, joint, rest)?)),
     }
 }
 
 #[cycle(reading)]
-fn chained(scope: Scope, joint: Joint, first: Cond, text: &[u8]) -> Result<(Cond, &[u8]), TextFault>
+fn chained(depth: Depth, joint: Joint, first: Cond, text: &[u8]) -> Result<(Cond, &[u8]), TextFault>
     ensures gives { Gives (λ p. (p.0, p.1.now)) result
-        (chained (joined joint) (next_part joint (opened_at (cond_tail scope.spec 64) scope.room)) (first, text.now)) }
+        (chained (joined joint) (next_part joint (opened_at (cond_tail depth.spec 64) depth.room)) (first, text.now)) }
     ensures within { IfOk result (λ p. length p.1.now ≤ length text.now) }
 {
     let mut left = first;
     let mut rest = text;
-    while let Some((right, more)) = next_part(scope, joint, rest)? {
-        left = joint.join(scope.alloc, left, right)?;
+    while let Some((right, more)) = next_part(depth, joint, rest)? {
+        left = joint.join(depth.alloc, left, right)?;
         rest = more;
     }
     Ok((left, rest))
 }
 
 #[cycle(reading)]
-fn chain_at(scope: Scope, joint: Joint, text: &[u8]) -> Result<(Cond, &[u8]), TextFault>
+fn chain_at(depth: Depth, joint: Joint, text: &[u8]) -> Result<(Cond, &[u8]), TextFault>
     ensures gives { Gives (λ p. (p.0, p.1.now)) result
-        (chain_at joint (opened_at (cond_tail scope.spec 64) scope.room) text.now) }
+        (chain_at joint (opened_at (cond_tail depth.spec 64) depth.room) text.now) }
     ensures within { IfOk result (λ p. length p.1.now < length text.now) }
 {
-    let (first, rest) = part_at(scope, joint, text)?;
-    chained(scope, joint, first, rest)
+    let (first, rest) = part_at(depth, joint, text)?;
+    chained(depth, joint, first, rest)
 }
 
 /// Reads a condition: terms joined by `||`, each of factors joined by `&&`, both left-associative. The fault is
@@ -178,18 +178,18 @@ pub fn read_cond(alloc: Global, text: &[u8], spec: Spec) -> Result<Cond, TextFau
     ensures exactly_faults { (cause : Cause) → FirstFault spec 64 text.now cause →
         MatchResult result (λ _. ⊥) (Refuses (λ why. why ≡ cause)) }
 {
-    let scope = Scope {
+    let depth = Depth {
         alloc,
         spec,
         room: 65,
     };
-    whole(scope, text)
+    whole(depth, text)
 }
 
-fn whole(scope: Scope, text: &[u8]) -> Result<Cond, TextFault>
-    ensures { Gives (λ c. c) result (whole_by (opened_at (cond_tail scope.spec 64) scope.room) text.now) }
+fn whole(depth: Depth, text: &[u8]) -> Result<Cond, TextFault>
+    ensures { Gives (λ c. c) result (whole_by (opened_at (cond_tail depth.spec 64) depth.room) text.now) }
 {
-    let (condition, rest) = chain_at(scope, Joint::Or, text)?;
+    let (condition, rest) = chain_at(depth, Joint::Or, text)?;
     if skip_blanks(rest).is_empty() {
         Ok(condition)
     } else {

@@ -11,26 +11,26 @@ calls And = 0
 calls Or = 4
 
 abbrev pub decreases-inner_factor : goal.decreases-inner_factor
-decreases-inner_factor l = 10 * l.scope.room
+decreases-inner_factor l = 10 * l.depth.room
 
 abbrev pub decreases-part_at : goal.decreases-part_at
-decreases-part_at l = 10 * l.scope.room + calls l.joint + 1
+decreases-part_at l = 10 * l.depth.room + calls l.joint + 1
 
 abbrev pub decreases-next_part : goal.decreases-next_part
-decreases-next_part l = 10 * l.scope.room + calls l.joint + 2
+decreases-next_part l = 10 * l.depth.room + calls l.joint + 2
 
 abbrev pub decreases-chained : goal.decreases-chained
-decreases-chained l = 10 * l.scope.room + calls l.joint + 3
+decreases-chained l = 10 * l.depth.room + calls l.joint + 3
 
 -- reading on after the parts so far gives the whole
 abbrev pub invariant-chained-loop-right : goal.invariant-chained-loop-right
-invariant-chained-loop-right l = IsReading (joined l.fn.joint) (next_part l.fn.joint (opened_at (cond_tail l.fn.scope.spec 64) l.fn.scope.room)) l.fn.first l.text l.left l.rest
+invariant-chained-loop-right l = IsReading (joined l.fn.joint) (next_part l.fn.joint (opened_at (cond_tail l.fn.depth.spec 64) l.fn.depth.room)) l.fn.first l.text l.left l.rest
 
 abbrev pub decreases-chained-loop-right : goal.decreases-chained-loop-right
 decreases-chained-loop-right l = length l.rest
 
 abbrev pub decreases-chain_at : goal.decreases-chain_at
-decreases-chain_at l = 10 * l.scope.room + calls l.joint + 4
+decreases-chain_at l = 10 * l.depth.room + calls l.joint + 4
 
 abbrev pub decreases-factor_at : goal.decreases-factor_at
-decreases-factor_at l = 10 * l.scope.room + 9
+decreases-factor_at l = 10 * l.depth.room + 9
