@@ -10,4 +10,4 @@ mod Operators
 mod Calm
 mod Segments
 mod Blocked
-mod Wished
+mod RangesByName

@@ -3,7 +3,7 @@ pub mod Rows
 pub mod Defaults
 pub mod PlaceRuns
 pub mod Orders
-pub mod Wishes
+pub mod Preferred
 pub mod Allowed
 pub mod AllowedVersions
 pub mod Dependencies

@@ -1,6 +1,5 @@
 -- The order in which the instances of a package are tried.
-use Rattle.std.specs.Prelude.{◌≡◌, ℕ, ◌<◌, Bool, ◌||◌, List, [], length, map, filter, slice_index_or, if◌then◌else◌}
-use Rattle.std.specs.List.{list_any}
+use Rattle.std.specs.Prelude.{◌≡◌, ℕ, ◌<◌, ◌||◌, List, [], length, map, filter, slice_index_or, if◌then◌else◌}
 use Rattle.plan_types.specs.declared.dependency.Named.{Named}
 use Rattle.plan_types.specs.declared.index.Instance.{Instance}
 use Rattle.plan_types.specs.declared.index.Package.{Package}
@@ -13,13 +12,9 @@ use Rattle.qualified_goals.specs.Names.{Name}
 use Rattle.plan_types.specs.Bytes.{same_text}
 use Rattle.plan_types.specs.Packages.{package_at}
 
--- whether a package is an extra one
-abbrev pub is_extra : Project → Name → Bool
-is_extra project name = list_any (λ n. same_text n.name name) project.extra
-
 -- the policy by which the instances of a package are ordered
 abbrev pub policy_of : Project → Package → Policy
-policy_of project p = if project.prefer_oldest then Oldest else (if p.local || is_extra project p.name then Latest else Installed)
+policy_of project p = if project.prefer_oldest then Oldest else (if p.local || p.extra then Latest else Installed)
 
 -- the ranges given for a name
 abbrev pub ranges_for : Name → List Named → List Range

@@ -13,11 +13,11 @@ mod offers;
 mod orders;
 mod place_runs;
 mod places;
+mod preferred;
 mod range_bounds;
 mod sources;
 mod tables;
 mod units;
-mod wishes;
 
 pub use defaults::Defaults;
 pub use dependencies::{ConditionalDep, Dependencies, Setting, Target, UnitNeed};

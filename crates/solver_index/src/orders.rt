@@ -1,9 +1,9 @@
 // The orders in which the instances of packages are tried.
 ghost use Rattle.std.specs.Prelude.{◌≡◌, IfOk, map};
 ghost use Rattle.solver_index.specs.Orders.{AreOrders, IsOrderOf, policy_of};
-ghost use Rattle.solver_index.specs.Wishes.{AreWishes};
+ghost use Rattle.solver_index.specs.Preferred.{ArePreferred};
 
-use crate::wishes::{Wishes, wishes_of};
+use crate::preferred::{RangesByName, ranges_by_name, ranges_for};
 use plan_types::{Entry, Instance, List, NoMemory, Package, Project};
 use preferences::{Policy, order};
 use std::alloc::Global;
@@ -16,10 +16,10 @@ pub(crate) fn orders_of(
 ) -> Result<List<List<u64>>, NoMemory>
     ensures { IfOk result (AreOrders project.now packages.now) }
 {
-    let wishes = wishes_of(alloc, project)?;
+    let preferred = ranges_by_name(alloc, project.preferences.as_slice())?;
     let mut orders = List::new(alloc);
     for found in packages {
-        orders.push(instance_order(alloc, found, project, &wishes)?)?;
+        orders.push(instance_order(alloc, found, project, &preferred)?)?;
     }
     Ok(orders)
 }
@@ -28,14 +28,14 @@ fn instance_order(
     alloc: Global,
     found: &Package,
     project: &Project,
-    wishes: &Wishes,
+    preferred: &RangesByName,
 ) -> Result<List<u64>, NoMemory>
-    requires { AreWishes project.now wishes.now }
+    requires { ArePreferred project.now preferred.now }
     ensures { IfOk result (IsOrderOf project.now found.now) }
 {
     let instances = instances_of(alloc, found.entries.as_slice())?;
-    let preferred = wishes.preferred(alloc, &found.name)?;
-    let policy = policy_of(project, wishes, found);
+    let preferred = ranges_for(alloc, preferred, &found.name)?;
+    let policy = policy_of(project, found);
     order(alloc, &instances, &preferred, policy)
 }
 
@@ -63,13 +63,12 @@ fn copied(alloc: Global, instance: &Instance) -> Result<Instance, NoMemory>
     })
 }
 
-fn policy_of(project: &Project, wishes: &Wishes, found: &Package) -> Policy
-    requires { AreWishes project.now wishes.now }
+fn policy_of(project: &Project, found: &Package) -> Policy
     ensures { result ≡ policy_of project.now found.now }
 {
     if project.prefer_oldest {
         Policy::Oldest
-    } else if found.local || wishes.is_extra(&found.name) {
+    } else if found.local || found.extra {
         Policy::Latest
     } else {
         Policy::Installed

@@ -1,19 +1,13 @@
--- Lookups by name, with one more entry.
-use Rattle.std.proofs.Common.{◌≡◌, ℕ, ◌+◌, ◌<◌, Bool, true, false, cond, ◌||◌, List, [], ◌∷◌, ◌++◌, map, length, take, get_or, refl, ap, ◌∙◌}
+-- The ranges for a name, with one more entry.
+use Rattle.std.proofs.Common.{◌≡◌, ℕ, ◌+◌, ◌<◌, Bool, true, false, cond, List, [], ◌∷◌, ◌++◌, map, length, take, get_or, refl, ap, ◌∙◌}
 use Rattle.std.specs.List.{filter}
 use Rattle.std.specs.Prelude.{if◌then◌else◌}
-use Rattle.std.specs.Cmp.Lexicographic.{nat_list_eq_equiv}
 use Rattle.plan_types.specs.Bytes.{same_text}
 use Rattle.plan_types.specs.declared.dependency.Named.{Named}
 use Rattle.plan_types.specs.declared.range.Range.{Range}
-use Rattle.qualified_goals.specs.Names.{Name, is_listed}
+use Rattle.qualified_goals.specs.Names.{Name}
 use Rattle.common_laws.specs.Lists.{take_at}
 use Rattle.solver_index.specs.Orders.{ranges_for}
-use Rattle.solver_index.specs.Wishes.{is_named}
-
-pub asked-for : (all : List Named) (name : Name) → is_listed (map (λ (n : Named). n.name) all) name ≡ is_named all name
-asked-for [] name = refl
-asked-for (n ∷ all) name = (λ i. nat_list_eq_equiv.symm name n.name i || asked-for all name i)
 
 abbrev ranges : List Named → List Range
 ranges = map (λ (n : Named). n.range)

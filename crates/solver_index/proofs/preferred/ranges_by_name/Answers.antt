@@ -4,8 +4,8 @@ use Rattle.plan_types.specs.Bytes.{same_text}
 use Rattle.plan_types.specs.declared.range.Range.{Range}
 use Rattle.qualified_goals.specs.Names.{Name}
 use Rattle.solver_index.specs.Orders.{ranges_for}
-use Rattle.solver_index.proofs.Wished.{ranges-more}
-use Rattle.solver_index.proofs.wishes.ranges_of.Goals as goal
+use Rattle.solver_index.proofs.RangesByName.{ranges-more}
+use Rattle.solver_index.proofs.preferred.ranges_by_name.Goals as goal
 
 pub loop-named-preserved : goal.loop-named-preserved
 loop-named-preserved c = λ name.
