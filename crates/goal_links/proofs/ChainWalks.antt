@@ -119,7 +119,7 @@ module _ (vars : List Var) (once : (m n : ℕ) → m < length vars → n < lengt
       ∙ ap (λ n. map (place_at all) (numbers_from n entry cells)) count in
       ap (λ b. map (λ m. m.place) (cond b (mention_in vars x ∷ others) others)) (same-number vars once x.entry entry own fits)
       ∙ elim (eqb entry x.entry) as (λ b. map (λ m. m.place) (cond b (mention_in vars x ∷ others) others) ≡ map (place_at all) (cond b (length front ∷ rest) rest)) [
-        | true ↦ ap (λ l. x.demand ∷ l) more ∙ ap (λ (y : Cell). y.demand ∷ map (place_at all) rest) (sym at)
+        | true ↦ ap (λ l. x.place ∷ l) more ∙ ap (λ (y : Cell). y.place ∷ map (place_at all) rest) (sym at)
         | false ↦ more
       ]
 
@@ -217,7 +217,7 @@ registered-mentions s v h =
         },
         map-alike (mention_in (s.vars ++ v ∷ [])) (mention_in s.vars) s.cells (λ k x e.
             let less : x.entry < length s.vars = subst (λ (y : Cell). y.entry < length s.vars) (get_or_from_slice_get s.cells k x no_cell e) (h.within k (slice_get_within s.cells k x e)) in
-            ap (λ w. let m : Mention = record { var = w; place = x.demand } in m) (get_or_append_left s.vars (v ∷ []) no_var x.entry less)),
+            ap (λ w. let m : Mention = record { var = w; place = x.place } in m) (get_or_append_left s.vars (v ∷ []) no_var x.entry less)),
       )
     ]
 
@@ -377,7 +377,7 @@ module _ (s : Entries) (n : ℕ) (h : AreSaid s n) where
   said-places entry lt =
       map-each (place_at (take n s.cells)) (place_at s.cells) (chain_at s.chains entry) (λ k c.
       let in' = (numbers-within 0 entry (take n s.cells) k (subst (λ (l : List ℕ). Contains l k) (h.said.chains entry lt) c)).1 in
-      ap (λ (x : Cell). x.demand) (sym (get_or_append_left (take n s.cells) (drop n s.cells) no_cell k (omega (arith, in'))) ∙ ap (λ (l : List Cell). cell_at l k) (take-append-drop n s.cells)))
+      ap (λ (x : Cell). x.place) (sym (get_or_append_left (take n s.cells) (drop n s.cells) no_cell k (omega (arith, in'))) ∙ ap (λ (l : List Cell). cell_at l k) (take-append-drop n s.cells)))
     where
       map-each : {X Y : Type 0} (f g : X → Y) (xs : List X) → ((x : X) → Contains xs x → f x ≡ g x) → map f xs ≡ map g xs
       map-each f g [] e = refl
@@ -489,7 +489,7 @@ registered-row s v =
 same-mentions : (vars more : List Var) (cells : List Cell) → ((k : ℕ) → k < length cells → (cell_at cells k).entry < length vars) → map (mention_in (vars ++ more)) cells ≡ map (mention_in vars) cells
 same-mentions vars more cells within = map-alike (mention_in (vars ++ more)) (mention_in vars) cells (λ k x e.
     let less : x.entry < length vars = subst (λ (y : Cell). y.entry < length vars) (get_or_from_slice_get cells k x no_cell e) (within k (slice_get_within cells k x e)) in
-    ap (λ w. let m : Mention = record { var = w; place = x.demand } in m) (get_or_append_left vars more no_var x.entry less))
+    ap (λ w. let m : Mention = record { var = w; place = x.place } in m) (get_or_append_left vars more no_var x.entry less))
 
 module _ (s : Entries) (n : ℕ) (v : Var) (h : AreSaid s n) where
   registered-all : mentions (registered s v) ≡ mentions s

@@ -13,7 +13,7 @@ pub record Chained : Type 0 where
 
 -- the cell for a number that no cell has
 abbrev pub no_cell : Cell
-no_cell = record { entry = 0; demand = 0 }
+no_cell = record { entry = 0; place = 0 }
 
 -- the cell with a number
 abbrev pub cell_at : List Cell → ℕ → Cell

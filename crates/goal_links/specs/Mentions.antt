@@ -18,7 +18,7 @@ pub record Mentioned : Type 0 where
 
 -- the mention of a cell
 abbrev pub mention_in : List Var → Cell → Mention
-mention_in vars cell = record { var = var_at vars cell.entry; place = cell.demand }
+mention_in vars cell = record { var = var_at vars cell.entry; place = cell.place }
 
 -- the mentions of all cells, in the order of their numbers
 abbrev pub mentions : Entries → List Mention
@@ -43,7 +43,7 @@ numbers_from n entry (cell ∷ cells) = cond (eqb entry cell.entry) (n ∷ numbe
 
 -- the place of the cell with a number
 abbrev pub place_at : List Cell → ℕ → ℕ
-place_at cells k = (cell_at cells k).demand
+place_at cells k = (cell_at cells k).place
 
 -- the places of the demands that mention a variable, in order
 abbrev pub places_on : Var → List Mention → List ℕ

@@ -11,11 +11,11 @@ use plan_types::NoMemory;
 use std::alloc::Global;
 use std::marker::Model;
 
-/// A demand, as an item of its entry's chain.
+/// An item of its entry's chain: the place of a demand.
 #[derive(Clone, Copy, Debug, Drop)]
 pub(crate) struct Cell {
     pub(crate) entry: usize,
-    pub(crate) demand: usize,
+    pub(crate) place: usize,
 }
 
 /// Cells by number. Some cells of an entry are linked in its chain.
@@ -95,11 +95,11 @@ impl Chains {
         self.cells[cell].entry
     }
 
-    pub(crate) fn demand(&self, cell: usize) -> usize
+    pub(crate) fn place(&self, cell: usize) -> usize
         requires { cell < length self.now.cells }
-        ensures { result ≡ (cell_at self.now.cells cell).demand }
+        ensures { result ≡ (cell_at self.now.cells cell).place }
     {
-        self.cells[cell].demand
+        self.cells[cell].place
     }
 
     pub(crate) fn first(&self, entry: usize) -> Option<usize>

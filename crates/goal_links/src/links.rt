@@ -91,14 +91,14 @@ impl Links {
     }
 
     /// A new cell of an entry, outside its chain.
-    pub fn register_cell(&mut self, entry: usize, demand: usize) -> Result<usize, NoMemory>
+    pub fn register_cell(&mut self, entry: usize, place: usize) -> Result<usize, NoMemory>
         requires { entry < length self.old.vars }
-        ensures ok { OnOk result (self.new ≡ with_cell self.old (record { entry = entry; demand = demand })) }
+        ensures ok { OnOk result (self.new ≡ with_cell self.old (record { entry = entry; place = place })) }
         ensures cell { IfOk result (λ cell. cell ≡ length self.old.cells) }
         ensures new { IfOk result (λ cell. has_node (chain_at self.old.chains entry) cell ≡ false) }
         ensures err { OnErr result (self.new ≡ self.old) }
     {
-        self.chains.add_cell(Cell { entry, demand })
+        self.chains.add_cell(Cell { entry, place })
     }
 
     /// The number of cells.
@@ -108,14 +108,14 @@ impl Links {
         self.chains.len()
     }
 
-    /// Replaces a cell outside its chain by a cell of this entry and demand.
-    pub fn set_cell(&mut self, cell: usize, entry: usize, demand: usize)
+    /// Replaces a cell outside its chain by a cell of this entry and place.
+    pub fn set_cell(&mut self, cell: usize, entry: usize, place: usize)
         requires cell { cell < length self.old.cells }
         requires entry { entry < length self.old.vars }
         requires outside { has_node (chain_with self.old cell) cell ≡ false }
-        ensures { self.new ≡ with_cell_at self.old cell (record { entry = entry; demand = demand }) }
+        ensures { self.new ≡ with_cell_at self.old cell (record { entry = entry; place = place }) }
     {
-        self.chains.set_cell(cell, Cell { entry, demand });
+        self.chains.set_cell(cell, Cell { entry, place });
     }
 
     /// The variable of an entry.
@@ -134,12 +134,12 @@ impl Links {
         self.chains.entry(cell)
     }
 
-    /// The demand of a cell.
-    pub fn demand_of(&self, cell: usize) -> usize
+    /// The place of a cell's demand.
+    pub fn place_of(&self, cell: usize) -> usize
         requires { cell < length self.now.cells }
-        ensures { result ≡ (cell_at self.now.cells cell).demand }
+        ensures { result ≡ (cell_at self.now.cells cell).place }
     {
-        self.chains.demand(cell)
+        self.chains.place(cell)
     }
 }
 

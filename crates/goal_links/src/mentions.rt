@@ -26,7 +26,7 @@ pub struct Mention {
 /// stays ready, and a ready mention is appended without allocation.
 #[derive(Drop)]
 pub struct Mentions {
-    // A cell of its variable's entry for each mention. The cell's demand is the mention's place.
+    // A cell of its variable's entry for each mention. It has the mention's place.
     links: Links,
     // The number of cells in use. The others are in no chain.
     count: usize,
@@ -109,7 +109,7 @@ impl Mentions {
         let entry = self.links.owner_of(index);
         Mention {
             var: self.links.var_of(entry),
-            place: self.links.demand_of(index),
+            place: self.links.place_of(index),
         }
     }
 

@@ -56,6 +56,6 @@ impl<'a> Iterator for MentionPlaces<'a> {
     fn next(&mut self) -> Option<usize> {
         let cell = self.at?;
         self.at = self.links.chain_next(cell);
-        Some(self.links.demand_of(cell))
+        Some(self.links.place_of(cell))
     }
 }

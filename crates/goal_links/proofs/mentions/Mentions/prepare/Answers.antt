@@ -13,7 +13,7 @@ use Rattle.goal_links.proofs.mentions.Mentions.prepare.Goals.{In_ok-entry}
 -- the entries after the variable is registered
 module _ (c : In_ok-entry) where
   abbrev cell : Cell
-  cell = record { entry = c.in_ok-entry.entry; demand = c.args.mention.place }
+  cell = record { entry = c.in_ok-entry.entry; place = c.args.mention.place }
 
   fits : c.in_ok-entry.entry < length c.register.new.self.vars
   fits = slice_get_within c.register.new.self.vars c.in_ok-entry.entry c.args.mention.var c.in_ok-entry.ensures.entry

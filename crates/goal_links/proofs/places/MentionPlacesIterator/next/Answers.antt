@@ -15,7 +15,7 @@ returns-clause-steps c =
     let among : IsInChain s k = subst (λ (o : Option ℕ). IfSome o (IsInChain s)) at c.self.invariant in
     sym c.self.view_is ∙ ap (places_from s) at
     ∙ ap (map (place_at s.cells)) (more-from s k next among c.chain_next-self-inside.ensures.next c.chain_next-self-inside.ensures.owner)
-    ∙ ap (λ n. n ∷ places_from s next) (sym c.demand_of.ensures)
+    ∙ ap (λ n. n ∷ places_from s next) (sym c.place_of.ensures)
 
 pub returns-clause-goes : goal.returns-clause-goes
 returns-clause-goes c =
