@@ -17,7 +17,7 @@ use Rattle.std.proofs.lemmas.Option.{same_Some}
 use Rattle.plan_types.specs.declared.condition.FlagSet.{FlagSet}
 use Rattle.conditionals.specs.Paths.{Path, has_setting, is_same, holds}
 use Rattle.conditionals.specs.Value.{Flags}
-use Rattle.impossible_conditions.specs.Settled.{AreEntries, HaveEntries, HasEntries}
+use Rattle.impossible_conditions.specs.FlagSettings.{AreEntries, HaveEntries, HasEntries}
 
 same-on : (is on : Bool) → is_same is on ≡ true → is ≡ on
 same-on true true e = refl

@@ -8,7 +8,7 @@ use Rattle.plan_types.specs.declared.conditions.Row.TheVariants.{Own, Negated, B
 use Rattle.conditionals.specs.Paths.{Path, holds}
 use Rattle.conditionals.specs.Value.{Flags, value}
 use Rattle.conditionals.specs.declared.value.Tri.TheVariants.{Yes}
-use Rattle.impossible_conditions.specs.Settled.{AreSet}
+use Rattle.impossible_conditions.specs.FlagSettings.{AreSet}
 use Rattle.impossible_conditions.specs.declared.known.Facts.{Facts}
 
 -- whether a row is `Own`
@@ -31,7 +31,7 @@ is_own rows (Both front last) = false
 -- the facts allow these flags: `known_impossible` is false, and the flags have the settings
 pub record Allows (flags : Flags) (known : Facts) : Type 0 where
   pub known_impossible : IsFalse known.known_impossible
-  pub settled : AreSet flags known.settled
+  pub required : AreSet flags known.required
 
 -- the facts about a condition are right: they allow all flags under which it is Yes
 abbrev pub IsKnown : Env → Cond → Facts → Type 0

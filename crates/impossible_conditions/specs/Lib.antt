@@ -1,3 +1,3 @@
-pub mod Settled
+pub mod FlagSettings
 pub mod Outlook
 pub mod Known

@@ -7,9 +7,9 @@ ghost use Rattle.conditionals.specs.Count.{numbers_of};
 ghost use Rattle.conditionals.specs.Paths.{holds};
 ghost use Rattle.conditionals.specs.Value.{Flags};
 ghost use Rattle.impossible_conditions.specs.Known.{AreKnown, ArePathsOf, IsKnown, Allows, OneHolds, is_own};
-ghost use Rattle.impossible_conditions.specs.Settled.{AreSet};
+ghost use Rattle.impossible_conditions.specs.FlagSettings.{AreSet};
 
-use crate::settled::FlagSettings;
+use crate::flag_settings::FlagSettings;
 use conditionals::{MOST_PATHS, PathCounts, paths};
 use plan_types::{Conditions, Env, FlagSet, List, NoMemory, Row};
 use std::alloc::Global;
@@ -20,7 +20,7 @@ pub struct Facts {
     /// The condition is never Yes. False if this isn't known.
     pub known_impossible: bool,
     /// Settings that flags have whenever the condition is Yes.
-    settled: FlagSettings,
+    required: FlagSettings,
 }
 
 impl Facts {
@@ -29,7 +29,7 @@ impl Facts {
     {
         Facts {
             known_impossible: false,
-            settled: FlagSettings::new(alloc),
+            required: FlagSettings::new(alloc),
         }
     }
 }
@@ -91,13 +91,13 @@ fn own(alloc: Global, paths: &Option<List<List<FlagSet>>>) -> Result<Facts, NoMe
 fn by_paths(alloc: Global, paths: &[List<FlagSet>]) -> Result<Facts, NoMemory>
     ensures { IfOk result (λ known. (flags : Flags) → list_any (holds flags) paths.now ≡ true → Allows flags known) }
 {
-    let mut settled = FlagSettings::new(alloc);
+    let mut required = FlagSettings::new(alloc);
     if paths.len() == 1 {
-        settled.add(alloc, paths[0].as_slice())?;
+        required.add(alloc, paths[0].as_slice())?;
     }
     Ok(Facts {
         known_impossible: paths.is_empty(),
-        settled,
+        required,
     })
 }
 
@@ -112,11 +112,11 @@ fn both(
         → OneHolds flags paths.now
         → Allows flags known) }
 {
-    let (settled, fits) = joined(alloc, &first.settled, &second.settled)?;
-    let some = allows_one(&first.settled, paths);
+    let (required, fits) = joined(alloc, &first.required, &second.required)?;
+    let some = allows_one(&first.required, paths);
     Ok(Facts {
         known_impossible: first.known_impossible || second.known_impossible || !fits || !some,
-        settled,
+        required,
     })
 }
 
@@ -150,20 +150,20 @@ fn added(
 }
 
 // Whether some path doesn't contradict the settings; true if the paths aren't known.
-fn allows_one(settled: &FlagSettings, paths: &Option<List<List<FlagSet>>>) -> bool
-    ensures { (flags : Flags) → AreSet flags settled.now → OneHolds flags paths.now → IsTrue result }
+fn allows_one(required: &FlagSettings, paths: &Option<List<List<FlagSet>>>) -> bool
+    ensures { (flags : Flags) → AreSet flags required.now → OneHolds flags paths.now → IsTrue result }
 {
     match paths {
-        Some(paths) => allows_some(settled, paths.as_slice()),
+        Some(paths) => allows_some(required, paths.as_slice()),
         None => true,
     }
 }
 
-fn allows_some(settled: &FlagSettings, paths: &[List<FlagSet>]) -> bool
-    ensures { (flags : Flags) → AreSet flags settled.now → list_any (holds flags) paths.now ≡ true → IsTrue result }
+fn allows_some(required: &FlagSettings, paths: &[List<FlagSet>]) -> bool
+    ensures { (flags : Flags) → AreSet flags required.now → list_any (holds flags) paths.now ≡ true → IsTrue result }
 {
     for path in paths {
-        if settled.allows(path.as_slice()) {
+        if required.allows(path.as_slice()) {
             return true;
         }
     }

@@ -4,8 +4,8 @@
 //! the facts about earlier rows.
 #![tactic(auto)]
 
+mod flag_settings;
 mod known;
 mod outlook;
-mod settled;
 
 pub use outlook::{Outlook, outlooks};

@@ -4,7 +4,7 @@ use Rattle.std.specs.BTreeMap.{BTreeMap}
 use Rattle.std.specs.List.{AllByRecursion}
 use Rattle.conditionals.specs.Paths.{holds}
 use Rattle.conditionals.specs.Value.{Flags}
-use Rattle.impossible_conditions.specs.declared.settled.FlagSettings.{FlagSettings}
+use Rattle.impossible_conditions.specs.declared.flag_settings.FlagSettings.{FlagSettings}
 
 -- flags have these settings
 abbrev pub AreEntries : Flags → List (List ℕ × Bool) → Type 0
@@ -19,6 +19,6 @@ HaveEntries flags [] = Unit {0}
 HaveEntries flags (said ∷ maps) = HasEntries flags said × HaveEntries flags maps
 
 -- flags have these settings
-pub record AreSet (flags : Flags) (settled : FlagSettings) : Type 0 where
-  pub shared : HaveEntries flags settled.shared
-  pub recent : holds flags settled.recent ≡ true
+pub record AreSet (flags : Flags) (required : FlagSettings) : Type 0 where
+  pub shared : HaveEntries flags required.shared
+  pub recent : holds flags required.recent ≡ true

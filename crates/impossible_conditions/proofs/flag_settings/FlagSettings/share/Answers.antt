@@ -1,9 +1,9 @@
 use Rattle.std.proofs.Common.{◌∷◌, [], sym, ◌∙◌, subst}
 use Rattle.std.proofs.lemmas.Result.{on_ok_weaker}
-use Rattle.impossible_conditions.specs.Settled.{HaveEntries, AreSet, HasEntries}
+use Rattle.impossible_conditions.specs.FlagSettings.{HaveEntries, AreSet, HasEntries}
 use Rattle.impossible_conditions.proofs.Settings.{said-front, said-push}
-use Rattle.impossible_conditions.proofs.settled.FlagSettings.share.Goals.{in-Some+then-len+in_ok-push, in_default}
-use Rattle.impossible_conditions.proofs.settled.FlagSettings.share.Goals as goal
+use Rattle.impossible_conditions.proofs.flag_settings.FlagSettings.share.Goals.{in-Some+then-len+in_ok-push, in_default}
+use Rattle.impossible_conditions.proofs.flag_settings.FlagSettings.share.Goals as goal
 
 pub loop-last-preserved : goal.loop-last-preserved
 loop-last-preserved c flags set =

@@ -1,7 +1,7 @@
 use Rattle.std.proofs.Common.{rules, ◌≡◌, ◌∷◌, sym, ap, ◌∙◌, subst}
-use Rattle.impossible_conditions.specs.Settled.{AreEntries}
+use Rattle.impossible_conditions.specs.FlagSettings.{AreEntries}
 use Rattle.impossible_conditions.proofs.Settings.{entry-put}
-use Rattle.impossible_conditions.proofs.settled.add_all.Goals as goal
+use Rattle.impossible_conditions.proofs.flag_settings.add_all.Goals as goal
 
 pub loop-name-preserved : goal.loop-name-preserved
 loop-name-preserved c flags map more =

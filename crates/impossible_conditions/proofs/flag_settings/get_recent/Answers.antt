@@ -1,7 +1,7 @@
 use Rattle.std.proofs.Common.{sym, ap, ◌∙◌}
 use Rattle.common_laws.specs.Small.{same-is}
 use Rattle.impossible_conditions.proofs.Settings.{holds-at}
-use Rattle.impossible_conditions.proofs.settled.get_recent.Goals as goal
+use Rattle.impossible_conditions.proofs.flag_settings.get_recent.Goals as goal
 
 pub returns-then-eq : goal.returns-then-eq
 returns-then-eq c flags all =

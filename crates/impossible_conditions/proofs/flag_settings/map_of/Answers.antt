@@ -1,7 +1,7 @@
 use Rattle.std.proofs.Common.{sym, ap, ◌∙◌, subst}
-use Rattle.impossible_conditions.specs.Settled.{AreEntries}
+use Rattle.impossible_conditions.specs.FlagSettings.{AreEntries}
 use Rattle.impossible_conditions.proofs.Settings.{entry-put, holds-at}
-use Rattle.impossible_conditions.proofs.settled.map_of.Goals as goal
+use Rattle.impossible_conditions.proofs.flag_settings.map_of.Goals as goal
 
 pub loop-setting-preserved : goal.loop-setting-preserved
 loop-setting-preserved c flags all =

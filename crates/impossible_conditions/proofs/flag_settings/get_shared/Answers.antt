@@ -3,7 +3,7 @@ use Rattle.std.specs.BTreeMap.{get}
 use Rattle.std.specs.Cmp.Lexicographic.{slice_cmp}
 use Rattle.std.specs.Ordering.{nat_cmp}
 use Rattle.impossible_conditions.proofs.Settings.{entry-got, said-at}
-use Rattle.impossible_conditions.proofs.settled.get_shared.Goals as goal
+use Rattle.impossible_conditions.proofs.flag_settings.get_shared.Goals as goal
 
 pub returns-in-Some : goal.returns-in-Some
 returns-in-Some c flags all =

@@ -1,6 +1,6 @@
-use Rattle.impossible_conditions.specs.Settled.{AreEntries}
+use Rattle.impossible_conditions.specs.FlagSettings.{AreEntries}
 use Rattle.conditionals.specs.Value.{Flags}
-use Rattle.impossible_conditions.proofs.settled.add_all.Given as goal
+use Rattle.impossible_conditions.proofs.flag_settings.add_all.Given as goal
 
 -- flags have the settings of the map and the remaining ones
 abbrev pub invariant-loop-name : goal.invariant-loop-name

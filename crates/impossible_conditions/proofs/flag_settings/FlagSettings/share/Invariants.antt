@@ -1,7 +1,7 @@
 use Rattle.std.proofs.Common.{length}
 use Rattle.conditionals.specs.Value.{Flags}
-use Rattle.impossible_conditions.specs.Settled.{AreSet, HasEntries}
-use Rattle.impossible_conditions.proofs.settled.FlagSettings.share.Given as goal
+use Rattle.impossible_conditions.specs.FlagSettings.{AreSet, HasEntries}
+use Rattle.impossible_conditions.proofs.flag_settings.FlagSettings.share.Given as goal
 
 -- flags have the settings of the remaining maps and of the new one
 abbrev pub invariant-loop-last : goal.invariant-loop-last

@@ -2,7 +2,7 @@
 ghost use Rattle.std.specs.Prelude.{◌≡◌, ◌↔◌, ◌∷◌, [], true, Some, IfOk, OnOk, IfSome, IsTrue};
 ghost use Rattle.conditionals.specs.Paths.{holds};
 ghost use Rattle.conditionals.specs.Value.{Flags};
-ghost use Rattle.impossible_conditions.specs.Settled.{AreSet, HaveEntries};
+ghost use Rattle.impossible_conditions.specs.FlagSettings.{AreSet, HaveEntries};
 
 use plan_types::{FlagSet, List, NoMemory, Shared, Text, drop_fields};
 use std::alloc::Global;
