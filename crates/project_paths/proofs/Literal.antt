@@ -19,7 +19,7 @@ use Rattle.outside_folder.specs.Files.{Bytes, Files, as_names, clashes, file_at,
 use Rattle.outside_folder.specs.declared.folder.Name.{Name}
 use Rattle.project_paths.specs.Listings.{names_in}
 use Rattle.project_paths.specs.Places.{below, is_matched, path_in, place_in}
-use Rattle.project_paths.specs.Spots.{directory, is_plain, plain_file, standing, unless_empty}
+use Rattle.project_paths.specs.MatchedPaths.{directory, is_plain, plain_file, standing, unless_empty}
 use Rattle.project_paths.specs.Wildcards.{fits, fits_byte, matches, tails}
 use Rattle.project_paths.proofs.Listed.{AreAlike, is_named, of_name, of-names}
 use Rattle.project_paths.proofs.Paths.{file-named, named-file, named-under, plain-byte, under-is, under-named}

@@ -1,17 +1,15 @@
 -- A path ends in `.cabal` only if its last name does.
-use Rattle.std.proofs.Common.{◌≡◌, ℕ, suc, zero, Bool, true, false, List, [], ◌∷◌, ◌++◌, ◌+◌, ◌-◌, ◌≤◌, ◌<◌, ◌⊎◌, length, drop, get_or, map, codes, refl, sym, ap, ◌∙◌, subst, inl, inr, arith, length-append, length-drop, get_or-drop}
-use Rattle.std.specs.Prelude.{filter, not, ◌&&◌}
+use Rattle.std.proofs.Common.{◌≡◌, ℕ, suc, zero, true, false, List, [], ◌∷◌, ◌++◌, ◌+◌, ◌-◌, ◌≤◌, ◌<◌, ◌⊎◌, length, drop, get_or, map, codes, refl, sym, ap, ◌∙◌, inl, inr, arith, length-append, length-drop, get_or-drop}
+use Rattle.std.specs.Prelude.{not, ◌&&◌}
 use Rattle.std.specs.List.{list_all}
-use Rattle.std.proofs.lemmas.Bool.{and_from, and_parts, cases_Bool, false≢true, not-true}
+use Rattle.std.proofs.lemmas.Bool.{and_parts, cases_Bool, false≢true, not-true}
 use Rattle.std.proofs.lemmas.Slice.Eq.{bytes_eq-Decides}
 use Rattle.common_laws.specs.Small.{same-is}
-use Rattle.plan_types.specs.Bytes.{same_text}
 use Rattle.outside_folder.specs.Files.{Bytes, slash}
 use Rattle.outside_folder.specs.declared.folder.Name.{Name}
 use Rattle.project_paths.specs.Places.{path_in, place_in}
-use Rattle.project_paths.specs.Spots.{is_cabal, is_literal, is_looked_up, is_taken}
-use Rattle.project_paths.specs.declared.spots.Spot.{Spot}
-use Rattle.project_paths.specs.declared.spots.Spot.TheVariants.{Listed, Literal}
+use Rattle.project_paths.specs.MatchedPaths.{is_cabal, is_literal, is_looked_up, is_taken}
+use Rattle.project_paths.specs.declared.matched_paths.MatchedPath.TheVariants.{Listed, Literal}
 
 abbrev suffix : Bytes
 suffix = codes ".cabal"

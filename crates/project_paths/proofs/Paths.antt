@@ -12,7 +12,7 @@ use Rattle.std.proofs.lemmas.Slice.Eq.{bytes_eq-Decides}
 use Rattle.outside_folder.specs.Files.{Bytes, after, first_name, inside, is_under, name_in, slash}
 use Rattle.outside_folder.proofs.FileTrees.{front_under}
 use Rattle.project_paths.specs.Places.{path_in}
-use Rattle.project_paths.specs.Spots.{is_plain}
+use Rattle.project_paths.specs.MatchedPaths.{is_plain}
 
 abbrev is_slash : ℕ → Bool
 is_slash b = b == slash

@@ -1,4 +1,4 @@
--- The places of spots after one more name, and the local files there.
+-- The places of matched paths after one more name, and the local files there.
 use Rattle.std.proofs.Common.{◌≡◌, Bool, true, false, cond, List, [], ◌∷◌, ◌++◌, ◌&&◌, length, map, Option, Some, None, refl, sym, ap, ◌∙◌, subst, append-nil, arith}
 use Rattle.std.specs.Prelude.{filter, flat_map, is_some, not, ◌==◌, Result, Ok, Err, IfOk, IfSome}
 use Rattle.std.proofs.lemmas.Bool.{and_parts, false≢true, not-true}
@@ -10,14 +10,14 @@ use Rattle.plan_types.specs.declared.refusal.Halt.TheVariants as halt
 use Rattle.outside_folder.specs.Files.{Bytes, Files, file_at, is_tree}
 use Rattle.outside_folder.specs.declared.folder.Name.{Name}
 use Rattle.project_paths.specs.Entries.{first_crowded, is_crowded, judged, least, unless_crowded}
-use Rattle.project_paths.specs.Found.{Finds, cabal_in, files_of, found_at, found_files, has_files, is_local, is_local_file}
+use Rattle.project_paths.specs.Found.{Finds, cabal_in, files_of, found_at, matched_files, has_files, is_local, is_local_file}
 use Rattle.project_paths.specs.Listings.{names_in}
 use Rattle.project_paths.specs.Places.{below, is_matched, names_at, path_in, place_in}
-use Rattle.project_paths.specs.Spots.{Leads, dir_of, directory, is_cabal, is_literal, is_looked_up, path_of, plain_file, seen, standing, unless_empty}
-use Rattle.project_paths.specs.declared.found.FoundFiles.{FoundFiles}
+use Rattle.project_paths.specs.MatchedPaths.{Leads, dir_of, directory, is_cabal, is_literal, is_looked_up, path_of, plain_file, seen, standing, unless_empty}
+use Rattle.project_paths.specs.declared.found.MatchedFiles.{MatchedFiles}
 use Rattle.project_paths.specs.declared.places.FolderPlace.{FolderPlace}
-use Rattle.project_paths.specs.declared.spots.Spot.{Spot}
-use Rattle.project_paths.specs.declared.spots.Spot.TheVariants.{Listed, Literal}
+use Rattle.project_paths.specs.declared.matched_paths.MatchedPath.{MatchedPath}
+use Rattle.project_paths.specs.declared.matched_paths.MatchedPath.TheVariants.{Listed, Literal}
 use Rattle.project_paths.proofs.Literal.{literal-below, none-in-file}
 
 -- ---- one more name
@@ -28,7 +28,7 @@ leads-literal files dir name h tree =
     let both = and_parts (not (length name == 0)) _ h in
     append-nil (standing files (path_in dir name)) ∙ literal-below dir name both.1 files tree both.0
 
--- listed spots are their own places
+-- listed matched paths are their own places
 listed-seen : (files : Files) (dir : Bytes) (names : List Name) → flat_map (seen files) (map (λ name. Listed (place_in dir name)) names) ≡ map (place_in dir) names
 listed-seen files dir [] = refl
 listed-seen files dir (n ∷ ns) = ap (λ l. place_in dir n ∷ l) (listed-seen files dir ns)
@@ -36,8 +36,8 @@ listed-seen files dir (n ∷ ns) = ap (λ l. place_in dir n ∷ l) (listed-seen 
 pub leads-listed : (files : Files) (dir pattern : Bytes) → Leads files (map (λ name. Listed (place_in dir name)) (filter (is_matched pattern) (names_in files dir))) (below files pattern (directory dir))
 leads-listed files dir pattern tree = listed-seen files dir (filter (is_matched pattern) (names_in files dir))
 
--- the places below a spot are those below its directory
-pub below-seen : (files : Files) (pattern : Bytes) (spot : Spot) (dir : Bytes) → is_tree files ≡ true → dir_of spot ≡ Some dir → flat_map (below files pattern) (seen files spot) ≡ below files pattern (directory dir)
+-- the places below a matched path are those below its directory
+pub below-seen : (files : Files) (pattern : Bytes) (matched : MatchedPath) (dir : Bytes) → is_tree files ≡ true → dir_of matched ≡ Some dir → flat_map (below files pattern) (seen files matched) ≡ below files pattern (directory dir)
 below-seen files pattern (Listed place) dir tree is = by place.folder refl is
   where
     by : (folder : Bool) → place.folder ≡ folder → cond folder (Some place.path) None ≡ Some dir → below files pattern place ++ [] ≡ below files pattern (directory dir)
@@ -62,51 +62,51 @@ below-seen files pattern (Literal path) dir tree is =
     by true t = sym (ap at (none-in-file files path tree t))
     by false t = empty (names_in files path) refl
 
-module _ (tells : Option Files) (pattern : Bytes) (spot : Spot) (dir : Bytes) (is : dir_of spot ≡ Some dir) where
-  -- spots that lead to the places below the directory lead to those below the spot
-  pub leads-spot : {E : Type 0} (result : Result (List Spot) E) → IfSome tells (λ files. IfOk result (λ found. Leads files found (below files pattern (directory dir))))
-      → IfSome tells (λ files. IfOk result (λ found. Leads files found (flat_map (below files pattern) (seen files spot))))
-  leads-spot (Err e) h = if_some _ tells (λ files t. tt)
-  leads-spot (Ok found) h = if_some _ tells (λ files t tree. some_at (λ files. Leads files found (below files pattern (directory dir))) tells files t h tree ∙ sym (below-seen files pattern spot dir tree is))
+module _ (tells : Option Files) (pattern : Bytes) (matched : MatchedPath) (dir : Bytes) (is : dir_of matched ≡ Some dir) where
+  -- matched paths that lead to the places below the directory lead to those below the matched path
+  pub leads-matched : {E : Type 0} (result : Result (List MatchedPath) E) → IfSome tells (λ files. IfOk result (λ found. Leads files found (below files pattern (directory dir))))
+      → IfSome tells (λ files. IfOk result (λ found. Leads files found (flat_map (below files pattern) (seen files matched))))
+  leads-matched (Err e) h = if_some _ tells (λ files t. tt)
+  leads-matched (Ok found) h = if_some _ tells (λ files t tree. some_at (λ files. Leads files found (below files pattern (directory dir))) tells files t h tree ∙ sym (below-seen files pattern matched dir tree is))
 
--- ---- the local files of a spot
+-- ---- the local files of a matched path
 
-abbrev Alike : Bool → Files → Spot → List Bytes → Type 0
-Alike folders files spot found = Finds files folders spot (found_files (path_of spot) found)
+abbrev Alike : Bool → Files → MatchedPath → List Bytes → Type 0
+Alike folders files matched found = Finds files folders matched (matched_files (path_of matched) found)
 
--- the spot is a local file itself
-pub finds-file : (folders : Bool) (files : Files) (spot : Spot) → is_local_file folders spot ≡ true → Alike folders files spot (path_of spot ∷ [])
+-- the matched path is a local file itself
+pub finds-file : (folders : Bool) (files : Files) (matched : MatchedPath) → is_local_file folders matched ≡ true → Alike folders files matched (path_of matched ∷ [])
 finds-file folders files (Listed place) h tree = by place.folder refl h
   where
     by : (folder : Bool) → place.folder ≡ folder → not folder && is_local folders place.path ≡ true
-        → filter has_files (found_files place.path (place.path ∷ []) ∷ []) ≡ filter has_files (record { path = place.path; files = files_of folders place (names_at files place) } ∷ [])
+        → filter has_files (matched_files place.path (place.path ∷ []) ∷ []) ≡ filter has_files (record { path = place.path; files = files_of folders place (names_at files place) } ∷ [])
     by true f h = absurd (false≢true h)
-    by false f h = ap (λ fs. filter has_files (found_files place.path fs ∷ [])) (sym (ap (λ t. cond t (cabal_in place.path (names_at files place)) (cond (is_local folders place.path) (place.path ∷ []) [])) f ∙ ap (λ t. cond t (place.path ∷ []) []) h))
+    by false f h = ap (λ fs. filter has_files (matched_files place.path fs ∷ [])) (sym (ap (λ t. cond t (cabal_in place.path (names_at files place)) (cond (is_local folders place.path) (place.path ∷ []) [])) f ∙ ap (λ t. cond t (place.path ∷ []) []) h))
 finds-file folders files (Literal path) h tree = absurd (false≢true h)
 
--- the spot is neither a directory nor a local file
-pub finds-none : (folders : Bool) (files : Files) (spot : Spot) → is_local_file folders spot ≡ false → dir_of spot ≡ None → Alike folders files spot []
+-- the matched path is neither a directory nor a local file
+pub finds-none : (folders : Bool) (files : Files) (matched : MatchedPath) → is_local_file folders matched ≡ false → dir_of matched ≡ None → Alike folders files matched []
 finds-none folders files (Listed place) h is tree = by place.folder refl h is
   where
     by : (folder : Bool) → place.folder ≡ folder → not folder && is_local folders place.path ≡ false → cond folder (Some place.path) None ≡ None
         → [] ≡ filter has_files (record { path = place.path; files = files_of folders place (names_at files place) } ∷ [])
     by true f h is = absurd (cc is)
-    by false f h is = sym (ap (λ fs. filter has_files (found_files place.path fs ∷ [])) (ap (λ t. cond t (cabal_in place.path (names_at files place)) (cond (is_local folders place.path) (place.path ∷ []) [])) f ∙ ap (λ t. cond t (place.path ∷ []) []) h))
+    by false f h is = sym (ap (λ fs. filter has_files (matched_files place.path fs ∷ [])) (ap (λ t. cond t (cabal_in place.path (names_at files place)) (cond (is_local folders place.path) (place.path ∷ []) [])) f ∙ ap (λ t. cond t (place.path ∷ []) []) h))
 finds-none folders files (Literal path) h is tree = absurd (cc is)
 
--- the spot may be a directory
-pub finds-in : (folders : Bool) (files : Files) (spot : Spot) (dir : Bytes) → is_looked_up spot ≡ true → is_local_file folders spot ≡ false → dir_of spot ≡ Some dir → Alike folders files spot (cabal_in dir (names_in files dir))
+-- the matched path may be a directory
+pub finds-in : (folders : Bool) (files : Files) (matched : MatchedPath) (dir : Bytes) → is_looked_up matched ≡ true → is_local_file folders matched ≡ false → dir_of matched ≡ Some dir → Alike folders files matched (cabal_in dir (names_in files dir))
 finds-in folders files (Listed place) dir looked h is tree = by place.folder refl is
   where
     by : (folder : Bool) → place.folder ≡ folder → cond folder (Some place.path) None ≡ Some dir
-        → filter has_files (found_files place.path (cabal_in dir (names_in files dir)) ∷ []) ≡ filter has_files (record { path = place.path; files = files_of folders place (names_at files place) } ∷ [])
+        → filter has_files (matched_files place.path (cabal_in dir (names_in files dir)) ∷ []) ≡ filter has_files (record { path = place.path; files = files_of folders place (names_at files place) } ∷ [])
     by true f is =
         let same : place.path ≡ dir = cc is in
-        ap (λ fs. filter has_files (found_files place.path fs ∷ [])) (ap (λ d. cabal_in d (names_in files d)) (sym same)
+        ap (λ fs. filter has_files (matched_files place.path fs ∷ [])) (ap (λ d. cabal_in d (names_in files d)) (sym same)
         ∙ sym (ap (λ t. cond t (cabal_in place.path (cond t (names_in files place.path) [])) (cond (is_local folders place.path) (place.path ∷ []) [])) f))
     by false f is = absurd (cc is)
 finds-in folders files (Literal path) dir looked h is tree =
-    ap (λ d. filter has_files (found_files path (cabal_in d (names_in files d)) ∷ [])) (sym same) ∙ by (is_some (file_at files path)) refl
+    ap (λ d. filter has_files (matched_files path (cabal_in d (names_in files d)) ∷ [])) (sym same) ∙ by (is_some (file_at files path)) refl
   where
     same : path ≡ dir
     same = cc is
@@ -118,35 +118,35 @@ finds-in folders files (Literal path) dir looked h is tree =
     not-local : is_local folders path ≡ false
     not-local = ap (λ t. not folders && t) (not-true (is_cabal path) looked) ∙ and-none (not folders)
 
-    empty : (names : List Name) → names_in files path ≡ names → filter has_files (found_files path (cabal_in path names) ∷ []) ≡ filter has_files (map (found_at files folders) (unless_empty path names))
+    empty : (names : List Name) → names_in files path ≡ names → filter has_files (matched_files path (cabal_in path names) ∷ []) ≡ filter has_files (map (found_at files folders) (unless_empty path names))
     empty [] e = refl
-    empty (n ∷ ns) e = ap (λ l. filter has_files (found_files path (cabal_in path l) ∷ [])) (sym e)
+    empty (n ∷ ns) e = ap (λ l. filter has_files (matched_files path (cabal_in path l) ∷ [])) (sym e)
 
     by : (t : Bool) → is_some (file_at files path) ≡ t
-        → filter has_files (found_files path (cabal_in path (names_in files path)) ∷ []) ≡ filter has_files (map (found_at files folders) (cond t (plain_file path ∷ []) (unless_empty path (names_in files path))))
+        → filter has_files (matched_files path (cabal_in path (names_in files path)) ∷ []) ≡ filter has_files (map (found_at files folders) (cond t (plain_file path ∷ []) (unless_empty path (names_in files path))))
     by true t =
-        ap (λ l. filter has_files (found_files path (cabal_in path l) ∷ [])) (none-in-file files path tree t)
-        ∙ sym (ap (λ b. filter has_files (found_files path (cond b (path ∷ []) []) ∷ [])) not-local)
+        ap (λ l. filter has_files (matched_files path (cabal_in path l) ∷ [])) (none-in-file files path tree t)
+        ∙ sym (ap (λ b. filter has_files (matched_files path (cond b (path ∷ []) []) ∷ [])) not-local)
     by false t = empty (names_in files path) refl
 
-module _ (tells : Option Files) (folders : Bool) (spot : Spot) (dir : Bytes) (is : dir_of spot ≡ Some dir) where
-  -- the local files in the spot's directory are those of the spot
-  pub found-spot : (found : List Bytes) → is_looked_up spot ≡ true → is_local_file folders spot ≡ false
-      → IfSome tells (λ files. found ≡ cabal_in dir (names_in files dir)) → IfSome tells (λ files. Alike folders files spot found)
-  found-spot found looked other h = if_some _ tells (λ files t.
-      subst (Alike folders files spot) (sym (some_at (λ files. found ≡ cabal_in dir (names_in files dir)) tells files t h))
-      (finds-in folders files spot dir looked other is))
+module _ (tells : Option Files) (folders : Bool) (matched : MatchedPath) (dir : Bytes) (is : dir_of matched ≡ Some dir) where
+  -- the local files in the matched path's directory are those of the matched path
+  pub found-matched : (found : List Bytes) → is_looked_up matched ≡ true → is_local_file folders matched ≡ false
+      → IfSome tells (λ files. found ≡ cabal_in dir (names_in files dir)) → IfSome tells (λ files. Alike folders files matched found)
+  found-matched found looked other h = if_some _ tells (λ files t.
+      subst (Alike folders files matched) (sym (some_at (λ files. found ≡ cabal_in dir (names_in files dir)) tells files t h))
+      (finds-in folders files matched dir looked other is))
 
 -- ---- the answer for an entry
 
-crowded-has : (found : FoundFiles) → has_files found ≡ false → is_crowded found ≡ false
+crowded-has : (found : MatchedFiles) → has_files found ≡ false → is_crowded found ≡ false
 crowded-has found h = by found.files h
   where
-    by : (files : List Bytes) → not (length files == 0) ≡ false → is_crowded (found_files found.path files) ≡ false
+    by : (files : List Bytes) → not (length files == 0) ≡ false → is_crowded (matched_files found.path files) ≡ false
     by [] h = refl
     by (f ∷ fs) h = let some : not (length (f ∷ fs) == 0) ≡ true = grind arith in absurd (false≢true (sym h ∙ some))
 
-crowded-same : (all : List FoundFiles) → filter is_crowded all ≡ filter is_crowded (filter has_files all)
+crowded-same : (all : List MatchedFiles) → filter is_crowded all ≡ filter is_crowded (filter has_files all)
 crowded-same [] = refl
 crowded-same (f ∷ fs) = by (crowded-same fs) (has_files f) refl
   where
@@ -154,7 +154,7 @@ crowded-same (f ∷ fs) = by (crowded-same fs) (has_files f) refl
     by more true t = ap (λ l. cond (is_crowded f) (f ∷ l) l) more
     by more false t = ap (λ b. cond b (f ∷ filter is_crowded fs) (filter is_crowded fs)) (crowded-has f t) ∙ more
 
-files-same : (all : List FoundFiles) → flat_map (λ f. f.files) all ≡ flat_map (λ f. f.files) (filter has_files all)
+files-same : (all : List MatchedFiles) → flat_map (λ f. f.files) all ≡ flat_map (λ f. f.files) (filter has_files all)
 files-same [] = refl
 files-same (f ∷ fs) = by (files-same fs) (has_files f) refl
   where
@@ -166,16 +166,16 @@ files-same (f ∷ fs) = by (files-same fs) (has_files f) refl
     by more true t = ap (λ l. f.files ++ l) more
     by more false t = ap (λ l. l ++ flat_map (λ f. f.files) fs) (none f.files t) ∙ more
 
-judged-has : (entry : ProjectEntry) (all : List FoundFiles) → judged entry all ≡ judged entry (filter has_files all)
+judged-has : (entry : ProjectEntry) (all : List MatchedFiles) → judged entry all ≡ judged entry (filter has_files all)
 judged-has entry all =
     ap (λ crowded. unless_crowded (least (map (λ f. f.path) crowded)) entry (flat_map (λ f. f.files) all)) (crowded-same all)
     ∙ ap (unless_crowded (first_crowded (filter has_files all)) entry) (files-same all)
 
 -- places without local files don't change the answer
-judged-same : (entry : ProjectEntry) (all found : List FoundFiles) → filter has_files all ≡ filter has_files found → judged entry all ≡ judged entry found
+judged-same : (entry : ProjectEntry) (all found : List MatchedFiles) → filter has_files all ≡ filter has_files found → judged entry all ≡ judged entry found
 judged-same entry all found same = judged-has entry all ∙ ap (judged entry) same ∙ sym (judged-has entry found)
 
-pub judged-answers : (entry : ProjectEntry) (all found : List FoundFiles) → filter has_files all ≡ filter has_files found → (result : Result (List Bytes) Halt)
+pub judged-answers : (entry : ProjectEntry) (all found : List MatchedFiles) → filter has_files all ≡ filter has_files found → (result : Result (List Bytes) Halt)
     → Settles (λ outcome. outcome ≡ judged entry all) result → Answers (λ outcome. outcome ≡ judged entry found) result
 judged-answers entry all found same (Ok files) h = h ∙ judged-same entry all found same
 judged-answers entry all found same (Err halt.NoMemory) h = tt

@@ -9,7 +9,7 @@ use Rattle.plan_types.specs.declared.refusal.Refusal.{Refusal}
 use Rattle.outside_folder.specs.Files.{Bytes, Files}
 use Rattle.project_paths.specs.Found.{found_by}
 use Rattle.project_paths.specs.Patterns.{pattern_of}
-use Rattle.project_paths.specs.declared.found.FoundFiles.{FoundFiles}
+use Rattle.project_paths.specs.declared.found.MatchedFiles.{MatchedFiles}
 use Rattle.project_paths.specs.declared.pattern.Pattern.{Pattern}
 
 -- the refusal of an entry
@@ -17,7 +17,7 @@ abbrev pub refusal_of : ProjectEntry → Cause → Bytes → Refusal
 refusal_of entry cause detail = record { path = entry.path; line = entry.line; cause = cause; detail = detail }
 
 -- a directory with two local files or more
-abbrev pub is_crowded : FoundFiles → Bool
+abbrev pub is_crowded : MatchedFiles → Bool
 is_crowded found = nat_le 2 (length found.files)
 
 -- the lesser of two paths in byte order; the first may be missing
@@ -30,7 +30,7 @@ abbrev pub least : List Bytes → Option Bytes
 least paths = fold (λ first path. Some (lesser first path)) None paths
 
 -- the first directory in byte order with two local files or more
-abbrev pub first_crowded : List FoundFiles → Option Bytes
+abbrev pub first_crowded : List MatchedFiles → Option Bytes
 first_crowded found = least (map (λ f. f.path) (filter is_crowded found))
 
 -- a directory's path as it is printed: `.` for the root
@@ -49,7 +49,7 @@ unless_crowded None entry paths = unless_none entry paths
 unless_crowded (Some dir) entry paths = Err (refusal_of entry TwoCabalFiles (shown dir))
 
 -- the local files at the places found, or a refusal
-abbrev pub judged : ProjectEntry → List FoundFiles → Result (List Bytes) Refusal
+abbrev pub judged : ProjectEntry → List MatchedFiles → Result (List Bytes) Refusal
 judged entry found = unless_crowded (first_crowded found) entry (flat_map (λ f. f.files) found)
 
 -- the local files of a pattern, or a refusal; without a pattern, the entry is unsupported

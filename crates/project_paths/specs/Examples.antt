@@ -6,7 +6,7 @@ use Rattle.outside_folder.specs.Files.{Bytes, Files}
 use Rattle.project_paths.specs.Entries.{refusal_of}
 use Rattle.project_paths.specs.Local.{local_files, no_packages}
 use Rattle.project_paths.specs.Patterns.{pattern_of}
-use Rattle.project_paths.specs.Spots.{directory, is_literal, is_taken, plain_file, standing}
+use Rattle.project_paths.specs.MatchedPaths.{directory, is_literal, is_taken, plain_file, standing}
 use Rattle.project_paths.specs.Wildcards.{matches}
 
 a_directory : pattern_of (codes "./a/b/") ≡ Some (record { names = codes "a" ∷ codes "b" ∷ []; folders = true })

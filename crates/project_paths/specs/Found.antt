@@ -3,12 +3,12 @@ use Rattle.std.specs.Prelude.{◌≡◌, Bool, false, ◌&&◌, ◌==◌, not, i
 use Rattle.outside_folder.specs.Files.{Bytes, Files, is_tree}
 use Rattle.outside_folder.specs.declared.folder.Name.{Name}
 use Rattle.project_paths.specs.Places.{names_at, path_in, places}
-use Rattle.project_paths.specs.declared.found.FoundFiles.{FoundFiles}
+use Rattle.project_paths.specs.declared.found.MatchedFiles.{MatchedFiles}
 use Rattle.project_paths.specs.declared.pattern.Pattern.{Pattern}
 use Rattle.project_paths.specs.declared.places.FolderPlace.{FolderPlace}
-use Rattle.project_paths.specs.declared.spots.Spot.{Spot}
-use Rattle.project_paths.specs.declared.spots.Spot.TheVariants.{Listed, Literal}
-use Rattle.project_paths.specs.Spots.{is_cabal, seen}
+use Rattle.project_paths.specs.declared.matched_paths.MatchedPath.{MatchedPath}
+use Rattle.project_paths.specs.declared.matched_paths.MatchedPath.TheVariants.{Listed, Literal}
+use Rattle.project_paths.specs.MatchedPaths.{is_cabal, seen}
 
 -- whether a name is that of a `.cabal` file, and not of a directory
 abbrev pub is_cabal_file : Name → Bool
@@ -27,26 +27,26 @@ abbrev pub files_of : Bool → FolderPlace → List Name → List Bytes
 files_of folders place names = if place.folder then cabal_in place.path names else if is_local folders place.path then place.path ∷ [] else []
 
 -- a place's path and local files
-abbrev pub found_at : Files → Bool → FolderPlace → FoundFiles
+abbrev pub found_at : Files → Bool → FolderPlace → MatchedFiles
 found_at files folders place = record { path = place.path; files = files_of folders place (names_at files place) }
 
 -- the places of a pattern with their local files
-abbrev pub found_by : Files → Pattern → List FoundFiles
+abbrev pub found_by : Files → Pattern → List MatchedFiles
 found_by files pattern = map (found_at files pattern.folders) (places files pattern.names)
 
 -- whether a place has local files
-abbrev pub has_files : FoundFiles → Bool
+abbrev pub has_files : MatchedFiles → Bool
 has_files found = not (length found.files == 0)
 
 -- a path with these local files
-abbrev pub found_files : Bytes → List Bytes → FoundFiles
-found_files path files = record { path = path; files = files }
+abbrev pub matched_files : Bytes → List Bytes → MatchedFiles
+matched_files path files = record { path = path; files = files }
 
--- If the files form a tree, these are the local files at the places of a spot. Places without a local file don't count.
-abbrev pub Finds : Files → Bool → Spot → FoundFiles → Type 0
-Finds files folders spot found = IsTrue (is_tree files) → filter has_files (found ∷ []) ≡ filter has_files (map (found_at files folders) (seen files spot))
+-- If the files form a tree, these are the local files at the places of a matched path. Places without a local file don't count.
+abbrev pub Finds : Files → Bool → MatchedPath → MatchedFiles → Type 0
+Finds files folders matched found = IsTrue (is_tree files) → filter has_files (found ∷ []) ≡ filter has_files (map (found_at files folders) (seen files matched))
 
--- whether a spot is a listed place that is a local file
-abbrev pub is_local_file : Bool → Spot → Bool
+-- whether a matched path is a listed place that is a local file
+abbrev pub is_local_file : Bool → MatchedPath → Bool
 is_local_file folders (Listed place) = not place.folder && is_local folders place.path
 is_local_file folders (Literal path) = false

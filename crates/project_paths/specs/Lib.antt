@@ -3,7 +3,7 @@ pub mod Wildcards
 pub mod Pieces
 pub mod Listings
 pub mod Places
-pub mod Spots
+pub mod MatchedPaths
 pub mod Found
 pub mod Entries
 pub mod Local

@@ -6,7 +6,7 @@ ghost use Rattle.project_paths.specs.Listings.{Agree};
 ghost use Rattle.project_paths.specs.Entries.{entry_files, first_crowded, is_crowded, judged, lesser, refusal_of, shown, unless_none};
 ghost use Rattle.plan_types.specs.Refusal.{Answers, Settles};
 
-use crate::found::{FoundFiles, found_by};
+use crate::found::{MatchedFiles, found_by};
 use crate::listings::Listings;
 use crate::pattern::pattern_of;
 use outside_folder::Folder;
@@ -48,7 +48,11 @@ fn refused(entry: &ProjectEntry, cause: Cause, detail: Text) -> Result<Halt, NoM
     }))
 }
 
-fn judged(alloc: Global, entry: &ProjectEntry, found: List<FoundFiles>) -> Result<List<Text>, Halt>
+fn judged(
+    alloc: Global,
+    entry: &ProjectEntry,
+    found: List<MatchedFiles>,
+) -> Result<List<Text>, Halt>
     ensures { Settles (λ outcome. outcome ≡ judged entry.now found) result }
 {
     match first_crowded(found.as_slice()) {
@@ -64,7 +68,7 @@ fn judged(alloc: Global, entry: &ProjectEntry, found: List<FoundFiles>) -> Resul
 }
 
 // The first directory, in byte order, with more than one `.cabal` file.
-fn first_crowded(found: &[FoundFiles]) -> Option<&Text>
+fn first_crowded(found: &[MatchedFiles]) -> Option<&Text>
     ensures { option_copied result ≡ first_crowded found.now }
 {
     let mut first = None;
@@ -76,7 +80,7 @@ fn first_crowded(found: &[FoundFiles]) -> Option<&Text>
     first
 }
 
-fn is_crowded(found: &FoundFiles) -> bool
+fn is_crowded(found: &MatchedFiles) -> bool
     ensures { result ≡ is_crowded found.now }
 {
     found.files.len() >= 2
@@ -102,7 +106,7 @@ fn shown(alloc: Global, dir: &Text) -> Result<Text, NoMemory>
     }
 }
 
-fn all_files(alloc: Global, found: List<FoundFiles>) -> Result<List<Text>, NoMemory>
+fn all_files(alloc: Global, found: List<MatchedFiles>) -> Result<List<Text>, NoMemory>
     ensures { IfOk result (λ files. files ≡ flat_map (λ f. f.files) found) }
 {
     let mut files = List::new(alloc);

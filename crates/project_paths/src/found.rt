@@ -3,20 +3,20 @@ ghost use Rattle.std.specs.Prelude.{◌≡◌, ◌∷◌, [], ◌++◌, ◌&&◌
 ghost use Rattle.outside_folder.specs.Calls.{Leaves};
 ghost use Rattle.outside_folder.specs.Files.{is_tree};
 ghost use Rattle.project_paths.specs.Listings.{Agree};
-ghost use Rattle.project_paths.specs.Found.{Finds, cabal_in, found_by, found_files, has_files, is_cabal_file, is_local, is_local_file};
-ghost use Rattle.project_paths.specs.Spots.{is_looked_up, is_open, path_of};
+ghost use Rattle.project_paths.specs.Found.{Finds, cabal_in, found_by, matched_files, has_files, is_cabal_file, is_local, is_local_file};
+ghost use Rattle.project_paths.specs.MatchedPaths.{is_looked_up, is_open, path_of};
 
 use crate::listings::Listings;
+use crate::matched_paths::{MatchedPath, is_cabal, matched_paths};
 use crate::pattern::Pattern;
 use crate::places::path_in;
-use crate::spots::{Spot, is_cabal, spots};
 use outside_folder::{Folder, Name, Trouble};
 use plan_types::{List, NoMemory, Text};
 use std::alloc::Global;
 
 /// A path, and the paths of the local files there: the path itself, or the `.cabal` files in it.
 #[derive(Debug, Drop)]
-pub(crate) struct FoundFiles {
+pub(crate) struct MatchedFiles {
     pub path: Text,
     pub files: List<Text>,
 }
@@ -27,17 +27,17 @@ pub(crate) fn found_by<F: Folder>(
     pattern: &Pattern,
     listings: &mut Listings,
     folder: &mut F,
-) -> Result<List<FoundFiles>, Trouble>
+) -> Result<List<MatchedFiles>, Trouble>
     requires { Agree (F.tells folder.old) listings.old }
     ensures observed { IfSome (F.tells folder.old)
         (λ files. IfOk result (λ all. filter has_files all ≡ filter has_files (found_by files pattern.now))) }
     ensures agree { OnOk result (Agree (F.tells folder.new) listings.new) }
     ensures folder { Leaves F.tells F.faults folder.old folder.new (IsErrOf result Trouble.Failed) }
 {
-    let spots = spots(alloc, pattern.names.as_slice(), listings, folder)?;
+    let matched_paths = matched_paths(alloc, pattern.names.as_slice(), listings, folder)?;
     let mut all = List::new(alloc);
-    for spot in spots.as_slice() {
-        let found = found_at(alloc, pattern.folders, spot, listings, folder)?;
+    for matched in matched_paths.as_slice() {
+        let found = found_at(alloc, pattern.folders, matched, listings, folder)?;
         all.push(found)?;
     }
     Ok(all)
@@ -46,43 +46,43 @@ pub(crate) fn found_by<F: Folder>(
 fn found_at<F: Folder>(
     alloc: Global,
     folders: bool,
-    spot: &Spot,
+    matched: &MatchedPath,
     listings: &mut Listings,
     folder: &mut F,
-) -> Result<FoundFiles, Trouble>
+) -> Result<MatchedFiles, Trouble>
     requires agree { Agree (F.tells folder.old) listings.old }
-    requires looked_up { IsTrue (is_looked_up spot.now) }
-    ensures observed { IfSome (F.tells folder.old) (λ files. IfOk result (Finds files folders spot.now)) }
+    requires looked_up { IsTrue (is_looked_up matched.now) }
+    ensures observed { IfSome (F.tells folder.old) (λ files. IfOk result (Finds files folders matched.now)) }
     ensures tree { IfSome (F.tells folder.old)
-        (λ files. OnOk result (IsTrue (is_open spot.now) → IsTrue (is_tree files))) }
+        (λ files. OnOk result (IsTrue (is_open matched.now) → IsTrue (is_tree files))) }
     ensures agree { OnOk result (Agree (F.tells folder.new) listings.new) }
     ensures folder { Leaves F.tells F.faults folder.old folder.new (IsErrOf result Trouble.Failed) }
 {
-    let files = files_at(alloc, folders, spot, listings, folder)?;
-    let path = spot.path().copy()?;
-    Ok(FoundFiles { path, files })
+    let files = files_at(alloc, folders, matched, listings, folder)?;
+    let path = matched.path().copy()?;
+    Ok(MatchedFiles { path, files })
 }
 
 fn files_at<F: Folder>(
     alloc: Global,
     folders: bool,
-    spot: &Spot,
+    matched: &MatchedPath,
     listings: &mut Listings,
     folder: &mut F,
 ) -> Result<List<Text>, Trouble>
     requires agree { Agree (F.tells folder.old) listings.old }
-    requires looked_up { IsTrue (is_looked_up spot.now) }
+    requires looked_up { IsTrue (is_looked_up matched.now) }
     ensures observed { IfSome (F.tells folder.old)
-        (λ files. IfOk result (λ found. Finds files folders spot.now (found_files (path_of spot.now) found))) }
+        (λ files. IfOk result (λ found. Finds files folders matched.now (matched_files (path_of matched.now) found))) }
     ensures tree { IfSome (F.tells folder.old)
-        (λ files. OnOk result (IsTrue (is_open spot.now) → IsTrue (is_tree files))) }
+        (λ files. OnOk result (IsTrue (is_open matched.now) → IsTrue (is_tree files))) }
     ensures agree { OnOk result (Agree (F.tells folder.new) listings.new) }
     ensures folder { Leaves F.tells F.faults folder.old folder.new (IsErrOf result Trouble.Failed) }
 {
-    if is_local_file(folders, spot) {
-        return Ok(only(alloc, spot.path())?);
+    if is_local_file(folders, matched) {
+        return Ok(one_file(alloc, matched.path())?);
     }
-    match spot.dir() {
+    match matched.dir() {
         None => Ok(List::new(alloc)),
         Some(dir) => {
             listings.list(alloc, dir, folder)?;
@@ -92,13 +92,13 @@ fn files_at<F: Folder>(
     }
 }
 
-// Whether a spot is a listed place that is a local file.
-fn is_local_file(folders: bool, spot: &Spot) -> bool
-    ensures { result ≡ is_local_file folders spot.now }
+// Whether a matched path is a listed place that is a local file.
+fn is_local_file(folders: bool, matched: &MatchedPath) -> bool
+    ensures { result ≡ is_local_file folders matched.now }
 {
-    match spot {
-        Spot::Listed(place) => !place.folder && is_local(folders, &place.path),
-        Spot::Literal(_) => false,
+    match matched {
+        MatchedPath::Listed(place) => !place.folder && is_local(folders, &place.path),
+        MatchedPath::Literal(_) => false,
     }
 }
 
@@ -108,7 +108,7 @@ fn is_local(folders: bool, path: &Text) -> bool
     !folders && is_cabal(path)
 }
 
-fn only(alloc: Global, path: &Text) -> Result<List<Text>, NoMemory>
+fn one_file(alloc: Global, path: &Text) -> Result<List<Text>, NoMemory>
     ensures { IfOk result (λ files. files ≡ path.now ∷ []) }
 {
     let mut files = List::new(alloc);

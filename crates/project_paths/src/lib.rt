@@ -8,9 +8,9 @@ mod entry;
 mod find;
 mod found;
 mod listings;
+mod matched_paths;
 mod pattern;
 mod places;
-mod spots;
 mod wildcard;
 
 pub use find::find_packages;

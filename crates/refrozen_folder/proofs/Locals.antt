@@ -16,9 +16,9 @@ use Rattle.project_paths.specs.Found.{cabal_in, found_at, found_by, is_cabal_fil
 use Rattle.project_paths.specs.Local.{all_files, and_then, finished_of, in_order, local_files, unless_none as unless_no_paths}
 use Rattle.project_paths.specs.Patterns.{pattern_of}
 use Rattle.project_paths.specs.Places.{names_at, path_in, places}
-use Rattle.project_paths.specs.Spots.{is_cabal}
+use Rattle.project_paths.specs.MatchedPaths.{is_cabal}
 use Rattle.refrozen_folder.proofs.Lists.{all-in-order}
-use Rattle.refrozen_folder.proofs.Places.{FolderPlace, FoundFiles, Pattern}
+use Rattle.refrozen_folder.proofs.Places.{FolderPlace, MatchedFiles, Pattern}
 use Rattle.refrozen_folder.proofs.Root.{is_other, other-by, slash-inside, slash-other}
 
 -- paths of which none is that of the freeze file, or a refusal
@@ -46,11 +46,11 @@ others-at files folders place =
       ] refl
     ]
 
-others-found : (files : Files) (folders : Bool) (ps : List FolderPlace) → list_all is_other (flat_map (λ (f : FoundFiles). f.files) (map (found_at files folders) ps)) ≡ true
+others-found : (files : Files) (folders : Bool) (ps : List FolderPlace) → list_all is_other (flat_map (λ (f : MatchedFiles). f.files) (map (found_at files folders) ps)) ≡ true
 others-found files folders [] = refl
 others-found files folders (place ∷ ps) =
     let here = (found_at files folders place).files in
-    let later = flat_map (λ (f : FoundFiles). f.files) (map (found_at files folders) ps) in
+    let later = flat_map (λ (f : MatchedFiles). f.files) (map (found_at files folders) ps) in
     all-append is_other here later ∙ and_from (list_all is_other here) (list_all is_other later) (others-at files folders place) (others-found files folders ps)
 
 others-judged : (entry : ProjectEntry) (crowded : Option Bytes) (paths : List Bytes) → list_all is_other paths ≡ true → AreOthers (unless_crowded crowded entry paths)
@@ -62,7 +62,7 @@ others-by : (files : Files) (entry : ProjectEntry) (pattern : Option Pattern) �
 others-by files entry None = tt
 others-by files entry (Some pattern) =
     let found = found_by files pattern in
-    others-judged entry (first_crowded found) (flat_map (λ (f : FoundFiles). f.files) found) (others-found files pattern.folders (places files pattern.names))
+    others-judged entry (first_crowded found) (flat_map (λ (f : MatchedFiles). f.files) found) (others-found files pattern.folders (places files pattern.names))
 
 others-both : (a b : Result (List Bytes) Refusal) → AreOthers a → AreOthers b → AreOthers (and_then a b)
 others-both (Err refusal) b h k = tt

@@ -11,7 +11,7 @@ use Rattle.plan_types.specs.declared.project.ProjectEntry.{ProjectEntry}
 use Rattle.outside_folder.specs.declared.folder.Name.{Name}
 use Rattle.outside_folder.specs.Files.{Bytes, Files, as_names, names_in as listed_in}
 use Rattle.project_paths.specs.Entries.{files_by, is_crowded, judged, least, unless_crowded}
-use Rattle.project_paths.specs.Found.{cabal_in, found_at, found_by, found_files, is_cabal_file, is_local}
+use Rattle.project_paths.specs.Found.{cabal_in, found_at, found_by, matched_files, is_cabal_file, is_local}
 use Rattle.project_paths.specs.Listings.{names_in}
 use Rattle.project_paths.specs.Local.{all_files, and_then, finished_of, local_files}
 use Rattle.project_paths.specs.Patterns.{pattern_of}
@@ -27,8 +27,8 @@ Pattern = taken_by (found_by [])
 abbrev pub FolderPlace : Type 0
 FolderPlace = given_by (place_in [])
 
-abbrev pub FoundFiles : Type 0
-FoundFiles = given_by (found_files [])
+abbrev pub MatchedFiles : Type 0
+MatchedFiles = given_by (matched_files [])
 
 -- whether a place isn't the freeze file
 abbrev is_kept : FolderPlace → Bool
@@ -72,7 +72,7 @@ module _ (files now : Files) (text : Bytes) (is : IsRefrozen files text now) whe
   pub same-found : (folders : Bool) (place : FolderPlace) → found_at now folders place ≡ found_at files folders place
   same-found folders place =
       let local = if is_local folders place.path then place.path ∷ [] else [] in
-      ap (found_files place.path) (elim place.folder as (λ t. (if t then cabal_in place.path (if t then names_in now place.path else []) else local) ≡ (if t then cabal_in place.path (if t then names_in files place.path else []) else local)) [
+      ap (matched_files place.path) (elim place.folder as (λ t. (if t then cabal_in place.path (if t then names_in now place.path else []) else local) ≡ (if t then cabal_in place.path (if t then names_in files place.path else []) else local)) [
         | true ↦ same-cabal place.path
         | false ↦ refl
       ])
@@ -128,7 +128,7 @@ module _ (files now : Files) (text : Bytes) (is : IsRefrozen files text now) whe
   -- ---- local files
 
   module _ (entry : ProjectEntry) (folders : Bool) where
-    abbrev found : FolderPlace → FoundFiles
+    abbrev found : FolderPlace → MatchedFiles
     found = found_at files folders
 
     not-crowded : (place : FolderPlace) → is_kept place ≡ false → filter is_crowded (found place ∷ []) ≡ []
@@ -137,13 +137,13 @@ module _ (files now : Files) (text : Bytes) (is : IsRefrozen files text now) whe
     same-judged : (ps qs : List FolderPlace) → filter is_kept ps ≡ filter is_kept qs → judged entry (map found ps) ≡ judged entry (map found qs)
     same-judged ps qs same =
         let crowded = filter-map is_crowded found ps ∙ flat-alike is_kept (λ p. filter is_crowded (found p ∷ [])) not-crowded ps qs same ∙ sym (filter-map is_crowded found qs) in
-        let paths = flat-map (λ (f : FoundFiles). f.files) found ps ∙ flat-alike is_kept (λ p. (found p).files) (none-found folders) ps qs same ∙ sym (flat-map (λ (f : FoundFiles). f.files) found qs) in
-        ap₂ (λ (c : List FoundFiles) (l : List Bytes). unless_crowded (least (map (λ (f : FoundFiles). f.path) c)) entry l) crowded paths
+        let paths = flat-map (λ (f : MatchedFiles). f.files) found ps ∙ flat-alike is_kept (λ p. (found p).files) (none-found folders) ps qs same ∙ sym (flat-map (λ (f : MatchedFiles). f.files) found qs) in
+        ap₂ (λ (c : List MatchedFiles) (l : List Bytes). unless_crowded (least (map (λ (f : MatchedFiles). f.path) c)) entry l) crowded paths
 
   same-by : (entry : ProjectEntry) (pattern : Option Pattern) → files_by now entry pattern ≡ files_by files entry pattern
   same-by entry None = refl
   same-by entry (Some pattern) =
-      ap (λ (f : FolderPlace → FoundFiles). judged entry (map f (places now pattern.names))) (λ i place. same-found pattern.folders place i)
+      ap (λ (f : FolderPlace → MatchedFiles). judged entry (map f (places now pattern.names))) (λ i place. same-found pattern.folders place i)
       ∙ same-judged entry pattern.folders (places now pattern.names) (places files pattern.names) (same-places pattern.names)
 
   same-all : (entries : List ProjectEntry) → all_files now entries ≡ all_files files entries

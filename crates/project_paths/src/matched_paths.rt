@@ -6,7 +6,7 @@ ghost use Rattle.std.specs.Option.{option_copied};
 ghost use Rattle.outside_folder.specs.Calls.{Leaves};
 ghost use Rattle.project_paths.specs.Listings.{Agree};
 ghost use Rattle.project_paths.specs.Places.{below, is_matched, path_in, place_in, places, root};
-ghost use Rattle.project_paths.specs.Spots.{Leads, Settled, dir_of, directory, is_cabal, is_literal, is_looked_up, is_plain, is_taken, path_of, seen};
+ghost use Rattle.project_paths.specs.MatchedPaths.{Leads, Settled, dir_of, directory, is_cabal, is_literal, is_looked_up, is_plain, is_taken, path_of, seen};
 
 use crate::listings::Listings;
 use crate::places::{FolderPlace, longer_path, place_in, root};
@@ -17,57 +17,57 @@ use std::alloc::Global;
 
 /// Where the names of a pattern lead: a place, or a path that wasn't looked up.
 #[derive(Debug, Drop)]
-pub(crate) enum Spot {
+pub(crate) enum MatchedPath {
     /// A file or directory from a listing, or the root.
     Listed(FolderPlace),
     /// A path whose last name is a literal name that isn't looked up: a file, a directory or nothing.
     Literal(Text),
 }
 
-impl Spot {
+impl MatchedPath {
     pub fn path(&self) -> &Text
         ensures { result.now ≡ path_of self.now }
     {
         match self {
-            Spot::Listed(place) => &place.path,
-            Spot::Literal(path) => path,
+            MatchedPath::Listed(place) => &place.path,
+            MatchedPath::Literal(path) => path,
         }
     }
 
-    /// The path, if the spot is or may be a directory.
+    /// The path, if the matched path is or may be a directory.
     pub fn dir(&self) -> Option<&Text>
         ensures { option_copied result ≡ dir_of self.now }
     {
         match self {
-            Spot::Listed(place) => {
+            MatchedPath::Listed(place) => {
                 if place.folder {
                     Some(&place.path)
                 } else {
                     None
                 }
             }
-            Spot::Literal(path) => Some(path),
+            MatchedPath::Literal(path) => Some(path),
         }
     }
 
-    /// The same, but it consumes the spot.
+    /// The same, but it consumes the matched path.
     fn into_dir(self) -> Option<Text>
         ensures { result ≡ dir_of self }
     {
         match self {
-            Spot::Listed(place) => { if place.folder { Some(place.path) } else { None } }
-            Spot::Literal(path) => Some(path),
+            MatchedPath::Listed(place) => { if place.folder { Some(place.path) } else { None } }
+            MatchedPath::Literal(path) => Some(path),
         }
     }
 }
 
-/// The spots to which the names lead from the root.
-pub(crate) fn spots<F: Folder>(
+/// The matched paths to which the names lead from the root.
+pub(crate) fn matched_paths<F: Folder>(
     alloc: Global,
     names: &[Text],
     listings: &mut Listings,
     folder: &mut F,
-) -> Result<List<Spot>, Trouble>
+) -> Result<List<MatchedPath>, Trouble>
     requires { Agree (F.tells folder.old) listings.old }
     ensures observed { IfSome (F.tells folder.old)
         (λ files. IfOk result (λ found. Leads files found (places files names.now))) }
@@ -83,34 +83,34 @@ pub(crate) fn spots<F: Folder>(
     Ok(found)
 }
 
-fn at_root(alloc: Global) -> Result<List<Spot>, NoMemory>
-    ensures { IfOk result (λ found. found ≡ Spot.Listed root ∷ []) }
+fn at_root(alloc: Global) -> Result<List<MatchedPath>, NoMemory>
+    ensures { IfOk result (λ found. found ≡ MatchedPath.Listed root ∷ []) }
 {
     let mut found = List::new(alloc);
-    found.push(Spot::Listed(root(alloc)))?;
+    found.push(MatchedPath::Listed(root(alloc)))?;
     Ok(found)
 }
 
 fn all_below<F: Folder>(
     alloc: Global,
     pattern: &Text,
-    spots: List<Spot>,
+    matched_paths: List<MatchedPath>,
     listings: &mut Listings,
     folder: &mut F,
-) -> Result<List<Spot>, Trouble>
+) -> Result<List<MatchedPath>, Trouble>
     requires { Agree (F.tells folder.old) listings.old }
     ensures observed { IfSome (F.tells folder.old)
         (λ files. IfOk result
-        (λ found. Leads files found (flat_map (below files pattern.now) (flat_map (seen files) spots)))) }
+        (λ found. Leads files found (flat_map (below files pattern.now) (flat_map (seen files) matched_paths)))) }
     ensures settled { IfSome (F.tells folder.old)
-        (λ files. IfOk result (λ found. Settled files spots → Settled files found)) }
+        (λ files. IfOk result (λ found. Settled files matched_paths → Settled files found)) }
     ensures looked_up { IfOk result (λ found. IsTrue (list_all is_looked_up found)) }
     ensures agree { OnOk result (Agree (F.tells folder.new) listings.new) }
     ensures folder { Leaves F.tells F.faults folder.old folder.new (IsErrOf result Trouble.Failed) }
 {
     let mut found = List::new(alloc);
-    for spot in spots.into_vec() {
-        let mut more = below(alloc, pattern, spot, listings, folder)?;
+    for matched in matched_paths.into_vec() {
+        let mut more = below(alloc, pattern, matched, listings, folder)?;
         found.append(&mut more)?;
     }
     Ok(found)
@@ -119,20 +119,20 @@ fn all_below<F: Folder>(
 fn below<F: Folder>(
     alloc: Global,
     pattern: &Text,
-    spot: Spot,
+    matched: MatchedPath,
     listings: &mut Listings,
     folder: &mut F,
-) -> Result<List<Spot>, Trouble>
+) -> Result<List<MatchedPath>, Trouble>
     requires { Agree (F.tells folder.old) listings.old }
     ensures observed { IfSome (F.tells folder.old)
-        (λ files. IfOk result (λ found. Leads files found (flat_map (below files pattern.now) (seen files spot)))) }
+        (λ files. IfOk result (λ found. Leads files found (flat_map (below files pattern.now) (seen files matched)))) }
     ensures settled { IfSome (F.tells folder.old)
-        (λ files. IfOk result (λ found. Settled files (spot ∷ []) → Settled files found)) }
+        (λ files. IfOk result (λ found. Settled files (matched ∷ []) → Settled files found)) }
     ensures looked_up { IfOk result (λ found. IsTrue (list_all is_looked_up found)) }
     ensures agree { OnOk result (Agree (F.tells folder.new) listings.new) }
     ensures folder { Leaves F.tells F.faults folder.old folder.new (IsErrOf result Trouble.Failed) }
 {
-    match spot.into_dir() {
+    match matched.into_dir() {
         None => Ok(List::new(alloc)),
         Some(dir) => below_dir(alloc, pattern, dir, listings, folder),
     }
@@ -144,7 +144,7 @@ fn below_dir<F: Folder>(
     dir: Text,
     listings: &mut Listings,
     folder: &mut F,
-) -> Result<List<Spot>, Trouble>
+) -> Result<List<MatchedPath>, Trouble>
     requires { Agree (F.tells folder.old) listings.old }
     ensures observed { IfSome (F.tells folder.old)
         (λ files. IfOk result (λ found. Leads files found (below files pattern.now (directory dir)))) }
@@ -157,7 +157,7 @@ fn below_dir<F: Folder>(
         return Ok(named(alloc, dir, pattern)?);
     }
     listings.list(alloc, &dir, folder)?;
-    let found = matched(alloc, pattern, &dir, listings.names(&dir))?;
+    let found = matching_names(alloc, pattern, &dir, listings.names(&dir))?;
     Ok(found)
 }
 
@@ -195,28 +195,28 @@ fn is_plain(byte: u8) -> bool
     byte != b'*' && byte != b'/' && byte != 0
 }
 
-fn named(alloc: Global, dir: Text, name: &Text) -> Result<List<Spot>, NoMemory>
-    ensures { IfOk result (λ found. found ≡ Spot.Literal (path_in dir name.now) ∷ []) }
+fn named(alloc: Global, dir: Text, name: &Text) -> Result<List<MatchedPath>, NoMemory>
+    ensures { IfOk result (λ found. found ≡ MatchedPath.Literal (path_in dir name.now) ∷ []) }
 {
     let mut found = List::new(alloc);
-    found.push(Spot::Literal(longer_path(dir, name)?))?;
+    found.push(MatchedPath::Literal(longer_path(dir, name)?))?;
     Ok(found)
 }
 
-fn matched(
+fn matching_names(
     alloc: Global,
     pattern: &Text,
     dir: &Text,
     names: &[Name],
-) -> Result<List<Spot>, NoMemory>
-    ensures { IfOk result (λ found. found ≡ map (λ name. Spot.Listed (place_in dir.now name))
+) -> Result<List<MatchedPath>, NoMemory>
+    ensures { IfOk result (λ found. found ≡ map (λ name. MatchedPath.Listed (place_in dir.now name))
         (filter (is_matched pattern.now) names.now)) }
 {
     let pieces = cut(alloc, pattern.as_str())?;
     let mut found = List::new(alloc);
     for name in names {
         if matches(pattern.as_bytes(), pieces.as_slice(), name.text.as_bytes()) {
-            found.push(Spot::Listed(place_in(dir, name)?))?;
+            found.push(MatchedPath::Listed(place_in(dir, name)?))?;
         }
     }
     Ok(found)

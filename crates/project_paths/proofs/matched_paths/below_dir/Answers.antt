@@ -4,11 +4,11 @@ use Rattle.std.specs.List.{list_all}
 use Rattle.std.proofs.lemmas.Bool.{and_parts}
 use Rattle.common_laws.specs.Small.{if_some, some_at}
 use Rattle.project_paths.specs.Places.{below, is_matched, place_in}
-use Rattle.project_paths.specs.Spots.{Leads, directory, is_cabal, is_literal, is_looked_up}
-use Rattle.project_paths.specs.declared.spots.Spot.TheVariants.{Listed}
+use Rattle.project_paths.specs.MatchedPaths.{Leads, directory, is_cabal, is_literal, is_looked_up}
+use Rattle.project_paths.specs.declared.matched_paths.MatchedPath.TheVariants.{Listed}
 use Rattle.project_paths.proofs.LookedUp.{taken-looked-up, listed-looked-up}
 use Rattle.project_paths.proofs.Seen.{leads-literal, leads-listed}
-use Rattle.project_paths.proofs.spots.below_dir.Goals as goal
+use Rattle.project_paths.proofs.matched_paths.below_dir.Goals as goal
 
 pub returns-then-is_taken-clause-observed : goal.returns-then-is_taken-clause-observed
 returns-then-is_taken-clause-observed g c = if_some _ (g.F.Folder.tells c.args.folder.now) (λ files t.

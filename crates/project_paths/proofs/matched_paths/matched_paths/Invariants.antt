@@ -5,8 +5,8 @@ use Rattle.outside_folder.specs.Calls.{Leaves}
 use Rattle.outside_folder.specs.Files.{Files}
 use Rattle.project_paths.specs.Listings.{Agree}
 use Rattle.project_paths.specs.Places.{places}
-use Rattle.project_paths.specs.Spots.{Leads, Settled, is_looked_up}
-use Rattle.project_paths.proofs.spots.spots.Given as goal
+use Rattle.project_paths.specs.MatchedPaths.{Leads, Settled, is_looked_up}
+use Rattle.project_paths.proofs.matched_paths.matched_paths.Given as goal
 
 abbrev pub invariant-loop-name : goal.invariant-loop-name
 invariant-loop-name g l = record {
