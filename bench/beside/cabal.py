@@ -9,6 +9,7 @@ import subprocess
 import tarfile
 
 import plans
+from tool import files
 
 CONFIG = "repository here\n  url: file+noindex://{}\n"
 NO_PLAN, LIMIT = "Could not resolve dependencies", "Backjump limit reached"
@@ -27,7 +28,7 @@ def number_of(program):
 
 def archive(package, version, text, path):
     """Makes an archive of a package with only its `.cabal` file: a plan needs no more."""
-    with tarfile.open(path, "w:gz", compresslevel=1) as tar:
+    with files.given_file(path) as file, tarfile.open(fileobj=file, mode="w:gz", compresslevel=1) as tar:
         told = tarfile.TarInfo(f"{package}-{version}/{package}.cabal")
         told.size = len(text)
         tar.addfile(told, io.BytesIO(text))
@@ -37,18 +38,16 @@ class Home:
     """A home of cabal with one repository in a folder, of `.cabal` files by package and version."""
 
     def __init__(self, room):
-        self.room, self.index = os.path.abspath(room), None
-        os.makedirs(f"{self.room}/home", exist_ok=True)
-        os.makedirs(f"{self.room}/repository", exist_ok=True)
-        with open(f"{self.room}/home/config", "w", encoding="utf-8") as file:
-            file.write(CONFIG.format(f"{self.room}/repository"))
+        self.room, self.index = files.made_room(os.path.abspath(room)), None
+        self.room.folder("repository")
+        self.room.write("home/config", CONFIG.format(f"{self.room}/repository"))
 
     def offer(self, index):
         """Makes these the packages of the repository. Those that the last call had too aren't written again."""
         if self.index is index:
             return
-        shutil.rmtree(f"{self.room}/repository")
-        os.makedirs(f"{self.room}/repository")
+        self.room.remove("repository")
+        self.room.folder("repository")
         for (package, version), text in index.items():
             archive(package, version, text, f"{self.room}/repository/{package}-{version}.tar.gz")
         self.index = index

@@ -7,6 +7,7 @@ import subprocess
 
 from folders import fifty, project
 from running import CALL, WRITE, Others, is_failure, lay_out, name_of, room, shown, table
+from tool import files
 
 READ_FAULT, WRITE_FAULT, WANTING = 4, 5, 6
 # The answer to each error of a system call, if there is only one possible answer.
@@ -62,7 +63,7 @@ def closed_outputs(program, folder, others):
     rows = []
     read, write = os.pipe()
     os.close(read)
-    with open("/dev/full", "wb") as full:
+    with files.given_file("/dev/full") as full:
         for name, words, how in (
             ("a full device", "exec \"$0\" plan", {"stdout": full}),
             ("no standard output", "exec \"$0\" plan >&-", {}),
@@ -79,9 +80,9 @@ def closed_outputs(program, folder, others):
 
 def run(program, _):
     others, rows, writes = Others(), [], []
-    for name, files in FOLDERS.items():
+    for name, made in FOLDERS.items():
         with room() as folder:
-            lay_out(folder, files())
+            lay_out(folder, made())
             for error in ERRORS:
                 calls, ends = refuse_calls(program, name, folder, ["plan"], error, others)
                 rows.append((name, name_of(error), calls, ends))

@@ -5,9 +5,9 @@ import collections
 import json
 import os
 import random
-import shutil
 
 from running import EXAMPLES, Others, files_of, lay_out, room, shown, side_by_side, table
+from tool import files as own_files
 
 FOLDERS = 10_000
 SEED = 1
@@ -138,13 +138,12 @@ def run(program, words):
         name = draw.choice(sorted(known))
         files, given = changed(draw, known[name]), draw.choice(WORDS)
         with room() as work:
-            folder = f"{work}/folder"
-            os.mkdir(folder)
+            folder = work.folder("folder")
             lay_out(folder, files)
             before = others.count
             found = tried(program, folder, given, f"folder {number} of {name}, {' '.join(given)}", others)
             if others.count > before and (kept := os.environ.get("KEEP")):
-                shutil.copytree(folder, f"{kept}/{number}", dirs_exist_ok=True)
+                own_files.made_room(kept).copy(folder, str(number))
         return found
 
     for ended, seconds in side_by_side(one, range(count)):

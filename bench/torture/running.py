@@ -10,8 +10,9 @@ import signal
 import struct
 import subprocess
 import sys
-import tempfile
 import threading
+
+from tool import files
 
 HERE = os.path.dirname(os.path.realpath(__file__))
 TOP = os.path.dirname(os.path.dirname(HERE))
@@ -33,14 +34,13 @@ Counts = collections.namedtuple("Counts", "memory calls writes refused most", de
 
 def room():
     """Returns a folder for made files, in memory if there is room."""
-    return tempfile.TemporaryDirectory(prefix="torture-", dir="/dev/shm" if os.access("/dev/shm", os.W_OK) else None)
+    return files.new_room("torture-", "/dev/shm" if os.access("/dev/shm", os.W_OK) else None)
 
 
-def lay_out(folder, files):
-    for path, content in files.items():
-        os.makedirs(os.path.dirname(f"{folder}/{path}"), exist_ok=True)
-        with open(f"{folder}/{path}", "wb") as file:
-            file.write(content if isinstance(content, bytes) else content.encode())
+def lay_out(folder, contents):
+    to = files.made_room(folder)
+    for path, content in contents.items():
+        to.write(path, content)
 
 
 def files_of(folder):
@@ -76,7 +76,7 @@ class Program:
         """Runs it once. refuse: a kind, its first and last refused call, and the error's number; most: the most bytes
         of a write. The status is below 0 if a signal ended the run, and None if it was stopped."""
         counts = f"{self.faults}.{threading.get_ident()}"
-        with open(counts, "wb") as file:
+        with files.given_file(counts) as file:
             file.write(bytes(struct.calcsize(NUMBERS)))
         given = {"LD_PRELOAD": self.faults, "FAULTS_COUNTS": counts}
         if refuse:
@@ -91,7 +91,7 @@ class Program:
         """Runs it without refusals, and measures its seconds of processor time, which other work doesn't change, and
         its peak of memory. It is stopped after so many of these seconds."""
         work = os.path.dirname(self.faults)
-        with tempfile.TemporaryFile(dir=work) as out, tempfile.TemporaryFile(dir=work) as err:
+        with files.scratch(work) as out, files.scratch(work) as err:
             how = {"stdin": subprocess.DEVNULL, "stdout": out, "stderr": err, "cwd": folder, "env": given}
             with subprocess.Popen([self.path, *words], **how) as ran:
                 with contextlib.suppress(ProcessLookupError):

@@ -1,19 +1,25 @@
-"""The path of the program that was built for the present sources."""
+"""The program for the present sources: the one that was built, or the release's. A program is run only if its bytes
+have the sum that is kept beside it."""
 
 import contextlib
 import hashlib
 import os
 import platform
-import sys
+import re
+
+from tool.refusal import Refusal, read
 
 TOP = os.path.dirname(os.path.dirname(os.path.dirname(os.path.realpath(__file__))))
 PROGRAM = "cabal_plan"
 # Outside the checkout: checkouts of the same sources share it, and the gate doesn't find it.
 OUT = f"{os.environ.get('XDG_CACHE_HOME') or os.path.expanduser('~/.cache')}/cabal-plan"
 # The program of the last release, for x86-64 Linux, and the sum of its sources.
-RELEASE, RELEASED_SOURCES = f"{TOP}/dist/cabal-plan", f"{TOP}/dist/sources.sha256"
-# The status if the program can't be built.
-FAILED = 70
+DIST = f"{TOP}/dist"
+RELEASE, RELEASED_SOURCES = f"{DIST}/cabal-plan", f"{DIST}/sources.sha256"
+# What ends the name of the file with the sum of a program.
+SUM = ".sha256"
+# The folders of a crate that have its sources, with the names of these files. Editors leave others beside them.
+SOURCES = {"src": re.compile(r"\w[\w-]*\.rt", re.A), "specs": re.compile(r"\w[\w-]*\.antt", re.A), "proofs": re.compile(r"\w[\w-]*\.antt", re.A)}
 
 
 def table(top=TOP):
@@ -37,44 +43,62 @@ def sources(crates):
     """Returns the paths of the program's sources, relative to the top."""
     found = ["HANDLES"]
     for crate in crates:
-        for part in ("src", "specs", "proofs"):
-            for at, _, names in os.walk(f"{TOP}/crates/{crate}/{part}"):
-                found += [f"{at}/{name}"[len(TOP) + 1 :] for name in names]
+        for part, name in SOURCES.items():
+            for at, folders, names in os.walk(f"{TOP}/crates/{crate}/{part}"):
+                folders[:] = [it for it in folders if not it.startswith(".")]
+                found += [f"{at}/{it}"[len(TOP) + 1 :] for it in names if name.fullmatch(it)]
     return sorted(found)
 
 
 def sum_of(top, crates, paths):
+    """Returns the sum of the sources at these paths, with the table of crates."""
     total = hashlib.sha256(repr(crates).encode())
     for path in paths:
-        with open(f"{top}/{path}", "rb") as file:
-            content = file.read()
+        content = read(f"{top}/{path}")
         total.update(f"{path}\0{len(content)}\0".encode())
         total.update(content)
     return total.hexdigest()
 
 
+def first_word(path):
+    """Returns the first word of a file, or none if it can't be read."""
+    with contextlib.suppress(OSError, UnicodeDecodeError), open(path, encoding="utf-8") as file:
+        return (file.read(1024).split() or [""])[0]
+    return None
+
+
+def checked(path):
+    """Returns the path of a program, and refuses one whose bytes don't have the sum beside it."""
+    try:
+        handle = os.open(path, os.O_RDONLY | os.O_NOFOLLOW | os.O_NONBLOCK | os.O_CLOEXEC)
+        with open(handle, "rb") as file:
+            found = hashlib.sha256(file.read()).hexdigest()
+    except OSError as error:
+        raise Refusal(f"{path} can't be read: {error.strerror}") from error
+    if found != first_word(f"{path}{SUM}"):
+        raise Refusal(f"{path} isn't the program whose sum {path}{SUM} has: it isn't run; take both anew (git checkout, or bin/release)")
+    return path
+
+
 def is_released(total):
-    """Returns whether the release was built of the sources with this sum, and runs here."""
-    with contextlib.suppress(OSError), open(RELEASED_SOURCES, encoding="utf-8") as file:
-        return file.read().split()[:1] == [total] and platform.machine() == "x86_64" and os.access(RELEASE, os.X_OK)
-    return False
+    """Returns whether the release was built of the sources with this sum, and is for this machine."""
+    return first_word(RELEASED_SOURCES) == total and platform.machine() == "x86_64"
 
 
 def built_program():
-    """Returns the path of the program for the present sources: the one that was built, or else the release's if it has
-    the same sources. If there is none, the program is built first."""
+    """Returns the program for the present sources: the one that was built, or else the release's if it has the same
+    sources. If there is none, the program is built first."""
     crates = below(PROGRAM, table(), {})
     paths = sources(crates)
     total = sum_of(TOP, crates, paths)
     # A program's name has the sum of its sources, and the file appears whole: nobody sees a part of it, or another's.
     program = f"{OUT}/{PROGRAM}-{total}"
-    if os.access(program, os.X_OK):
-        return program
+    if os.access(f"{program}{SUM}", os.R_OK):
+        return checked(program)
     if is_released(total):
-        return RELEASE
+        return checked(RELEASE)
     from steps import Build, built
 
     if not built(OUT, program, Build(TOP, f"{OUT}/work", crates), paths, sum_of):
-        print("cabal-plan: the program could not be built", file=sys.stderr)
-        sys.exit(FAILED)
-    return program
+        raise Refusal("the program could not be built")
+    return checked(program)

@@ -3,12 +3,16 @@
 import concurrent.futures
 import contextlib
 import fcntl
+import hashlib
 import os
 import shutil
 import signal
 import subprocess
 import sys
 import time
+
+from tool import files
+from tool.refusal import read
 
 # The memory of a check in bytes: the least, a line of code, a line of a definition or proof, the kit's crates.
 LEAST, OF_CODE, OF_PROOFS, OF_KIT = 1_000_000_000, 1_000_000, 200_000, 1_500_000_000
@@ -27,22 +31,15 @@ def since(begun):
 
 
 @contextlib.contextmanager
-def alone(folder):
+def alone(out):
     """Lets one caller at a time build."""
-    os.makedirs(folder, exist_ok=True)
-    with open(f"{folder}/lock", "w", encoding="utf-8") as lock:
+    with files.lock_file(out, "lock") as lock:
         try:
             fcntl.flock(lock, fcntl.LOCK_EX | fcntl.LOCK_NB)
         except BlockingIOError:
             say("waiting for another call, which builds the program")
             fcntl.flock(lock, fcntl.LOCK_EX)
         yield
-
-
-def linked(one, other):
-    """Links the files of a folder. A program that makes such a file again removes it first."""
-    shutil.rmtree(other, ignore_errors=True)
-    shutil.copytree(one, other, copy_function=os.link)
 
 
 def lines(folder, ending):
@@ -65,8 +62,9 @@ class Build:
     crate, so in a common folder crates would wait for each other."""
 
     def __init__(self, top, room, crates):
-        """crates: for each crate those that it uses, also the kit's; in an order with the program last."""
-        self.top, self.room, self.crates, self.sources = top, room, crates, f"{room}/sources"
+        """room: the path of a folder. crates: for each crate those that it uses, also the kit's; with the program last."""
+        self.top, self.path, self.crates, self.sources = top, room, crates, f"{room}/sources"
+        self.room = None
         self.used = {crate: [it for it in words if it in crates] for crate, words in crates.items()}
         self.program = list(crates)[-1]
         self.running, self.is_stopped, self.memory_free = set(), False, 0
@@ -83,38 +81,38 @@ class Build:
             self.ahead[crate] = self.work[crate] + max(above, default=0)
 
     def copy(self, paths):
-        shutil.rmtree(self.sources, ignore_errors=True)
+        self.room = files.cache_room(self.path)
+        self.room.remove("sources")
         for path in paths:
-            os.makedirs(os.path.dirname(f"{self.sources}/{path}"), exist_ok=True)
-            shutil.copyfile(f"{self.top}/{path}", f"{self.sources}/{path}")
+            self.room.copy(f"{self.top}/{path}", f"sources/{path}")
 
     def folder(self, crate, of=None):
-        return f"{self.room}/{crate}/crates/{of or crate}"
+        return f"{self.path}/{crate}/crates/{of or crate}"
 
     def lay_out(self, crate):
         """Fills a crate's folder: its sources, and the sources and libraries of the crates below it."""
-        os.makedirs(self.folder(crate), exist_ok=True)
-        shutil.copyfile(f"{self.sources}/HANDLES", f"{self.room}/{crate}/HANDLES")
-        with open(f"{self.room}/{crate}/crates.txt", "w", encoding="utf-8") as table:
-            table.writelines(f"{it}: {' '.join(self.crates[it])}\n" for it in [*self.below[crate], crate])
+        self.room.copy(f"{self.sources}/HANDLES", f"{crate}/HANDLES")
+        table = "".join(f"{it}: {' '.join(self.crates[it])}\n" for it in [*self.below[crate], crate])
+        self.room.write(f"{crate}/crates.txt", table)
         for it in [crate, *self.below[crate]]:
             for part in PARTS:
-                shutil.rmtree(f"{self.folder(crate, it)}/{part}", ignore_errors=True)
-                if os.path.isdir(f"{self.sources}/crates/{it}/{part}"):
-                    linked(f"{self.sources}/crates/{it}/{part}", f"{self.folder(crate, it)}/{part}")
+                self.again(f"{self.sources}/crates/{it}/{part}", f"{crate}/crates/{it}/{part}")
         for it in self.below[crate]:
-            os.makedirs(f"{self.folder(crate, it)}/out", exist_ok=True)
-            linked(f"{self.folder(it)}/out/rlib", f"{self.folder(crate, it)}/out/rlib")
+            self.again(f"{self.folder(it)}/out/rlib", f"{crate}/crates/{it}/out/rlib")
+
+    def again(self, one, other):
+        """Links the files of a folder in place of what was there. A program that makes such a file again removes it first."""
+        self.room.remove(other)
+        if os.path.isdir(one):
+            self.room.share(one, other)
 
     def prove(self, crate, jobs, words):
         """Proves a crate, and returns its log if that fails."""
         self.lay_out(crate)
-        out = f"{self.folder(crate)}/out"
-        os.makedirs(out, exist_ok=True)
+        out = self.room.folder(f"{crate}/crates/{crate}/out")
         log, stamp = f"{out}/build.log", f"{out}/{crate}.stamp"
-        with contextlib.suppress(FileNotFoundError):
-            os.remove(stamp)
-        with open(log, "wb") as file:
+        self.room.remove(f"{crate}/crates/{crate}/out/{crate}.stamp")
+        with files.given_file(log) as file:
             how = {"stdin": subprocess.DEVNULL, "stdout": file, "stderr": file, "start_new_session": True}
             ran = subprocess.Popen([*words, "--jobs", str(jobs)], cwd=self.folder(crate), **how)
             self.running.add(ran)
@@ -198,16 +196,19 @@ LIB, RUN = ["rt", "lib"], ["rt", "run"]
 KEPT = 4
 
 
-def drop_old(out, program):
-    found = [f"{out}/{name}" for name in os.listdir(out) if name.startswith(f"{program}-")]
-    for path in sorted(found, key=os.path.getmtime)[:-KEPT]:
-        os.remove(path)
+def drop_old(room, program):
+    """Removes the programs that were built first, with their sums."""
+    found = [it for it in os.listdir(room.path) if it.startswith(f"{program}-") and "." not in it]
+    for name in sorted(found, key=lambda it: os.path.getmtime(f"{room}/{it}"))[:-KEPT]:
+        room.remove(f"{name}.sha256")
+        room.remove(name)
 
 
 def built(out, program, build, paths, sum_of):
     """Builds the program under this name, which has the sum of its sources, and returns whether it is there."""
-    with alone(out):
-        if os.access(program, os.X_OK):
+    room = files.cache_room(out)
+    with alone(room):
+        if os.access(f"{program}.sha256", os.R_OK):
             return True
         if not shutil.which("rt"):
             say("the kit's command rt isn't found, and nothing is built without it")
@@ -219,8 +220,8 @@ def built(out, program, build, paths, sum_of):
             return False
         if not build.run():
             return False
-        drop_old(out, build.program)
-        shutil.copyfile(f"{build.folder(build.program)}/out/{build.program}", f"{program}.new")
-        os.chmod(f"{program}.new", 0o755)
-        os.replace(f"{program}.new", program)
+        drop_old(room, build.program)
+        made = read(f"{build.folder(build.program)}/out/{build.program}")
+        files.replace(program, made, 0o755)
+        files.replace(f"{program}.sha256", f"{hashlib.sha256(made).hexdigest()}  {os.path.basename(program)}\n".encode())
         return True

@@ -5,10 +5,10 @@ import functools
 import os
 import re
 import subprocess
-import tempfile
 
 from cases import DATA, BadCase, cases
 from pages import TOP, Failure, cells, names
+from tool import files as own_files
 
 SUBJECT = "examples"
 PATH = os.path.relpath(f"{DATA}/{SUBJECT}", TOP)
@@ -38,13 +38,6 @@ def files_of(folder):
                 with open(f"{folder}/{path}", "rb") as file:
                     found[path] = file.read()
     return found
-
-
-def lay_out(files, folder):
-    for path, content in files.items():
-        os.makedirs(os.path.dirname(f"{folder}/{path}"), exist_ok=True)
-        with open(f"{folder}/{path}", "wb") as file:
-            file.write(content)
 
 
 @functools.lru_cache(maxsize=None)
@@ -85,10 +78,11 @@ class Shell:
         """Runs a command that changes the files, on a copy, and returns whether it succeeded."""
         if OUTSIDE.search(command):
             return False
-        with tempfile.TemporaryDirectory(prefix="docs-") as room:
-            lay_out(self.files, room)
-            ran = subprocess.run(command, shell=True, cwd=room, stdin=subprocess.DEVNULL, check=False)
-            self.files = files_of(room)
+        with own_files.new_room("docs-") as room:
+            for path, content in self.files.items():
+                room.write(path, content)
+            ran = subprocess.run(command, shell=True, cwd=room.path, stdin=subprocess.DEVNULL, check=False)
+            self.files = files_of(room.path)
         return ran.returncode == 0
 
 

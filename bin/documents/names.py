@@ -11,7 +11,7 @@ from program import table
 CRATES = set(os.listdir(f"{TOP}/crates"))
 # The sources of names, without this check.
 SOURCES = [f"crates/*/{it}/**" for it in ("src", "specs", "proofs", "data")] + ["crates/*/args", "crates/*/stdout", "crates.txt", "HANDLES"]
-SOURCES += ["bin/*", "bin/build/*", "bin/folder/*", "bench/**", "examples/**"]
+SOURCES += ["bin/*", "bin/build/*", "bin/tool/**", "bench/**", "examples/**"]
 PARTS = ("src", "specs", "proofs", "data", "must-fail", "mistakes")
 STARTS = {"crates", "docs", "bin", "bench", "examples", "src", "specs", "proofs", "must-fail", "mistakes"} | CRATES
 ENDS = (".rt", ".antt", ".md", ".edit", ".txt", ".py")

@@ -7,16 +7,16 @@ import os
 import re
 import time
 
-from refusal import Refusal, read
+from tool.names import is_name
+from tool.refusal import Refusal, read
 
-VERSION = re.compile(r"(0|[1-9]\d{0,8})(\.(0|[1-9]\d{0,8}))*")
 BLOCK, CHUNK = 512, 1 << 22
 # The marks of a tar's entry: a file, or a long name of the next entry.
 FILE, LONG_NAME, LONGER, CABAL = (b"0", b"\0"), b"L", (b"L", b"x"), b".cabal\0"
 
 
 def is_version(text):
-    return VERSION.fullmatch(text) is not None
+    return is_name(text, "version")
 
 
 def by_number(text):
@@ -35,6 +35,8 @@ class Folder:
 
     def versions(self, name):
         """Returns the versions of a name."""
+        if not is_name(name, "package"):
+            return []
         try:
             there = os.listdir(f"{self.path}/{name}")
         except (FileNotFoundError, NotADirectoryError):

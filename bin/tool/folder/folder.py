@@ -8,16 +8,15 @@ import glob
 import os
 import re
 
-import closure
-from compiler import compiler
-from index import index
-from made import OWN, Own, put
-from older import Misread, is_read, rewritten
-from project import FILES, extra_names, fields, local_files
-from records import hash_of, records
-from refusal import Refusal, read
-
-INDEX, INSTALLED, PROJECT, CHANGED = "index", "installed", "project", ".changed"
+from tool.folder import closure
+from tool.folder.compiler import chosen, compiler
+from tool.folder.index import index
+from tool.folder.made import CHANGED, INDEX, INSTALLED, OWN, PROJECT, Own
+from tool.folder.older import Misread, is_read, rewritten
+from tool.folder.project import FILES, extra_names, local_files
+from tool.folder.records import hash_of, records
+from tool.names import file_name
+from tool.refusal import Refusal, read
 
 
 def copy_of(path, data, say):
@@ -56,7 +55,7 @@ class Wanted:
 
     def key(self):
         """Returns all of this as a text."""
-        units = sorted((it.unit, it.name, it.needs) for it in self.units)
+        units = sorted((it.unit or "", it.name or "", it.needs) for it in self.units)
         return repr((sorted(self.roots), sorted(self.own), units, self.newest, self.is_rewritten))
 
 
@@ -78,60 +77,57 @@ def reached(source, wanted, say):
 
 def code():
     """Returns a hash of this code."""
-    return hash_of(b"\0".join(read(it) for it in sorted(glob.glob(f"{os.path.dirname(os.path.realpath(__file__))}/*.py"))))
+    here = os.path.dirname(os.path.realpath(__file__))
+    return hash_of(b"\0".join(read(it) for it in sorted([*glob.glob(f"{here}/[a-z]*.py"), *glob.glob(f"{here}/../[a-z]*.py")])))
 
 
 def made_index(own, source, wanted, say):
     """Returns the name of the made index. From a tar it is made again only if the tar or `wanted` has changed."""
     if source.stamp:
         key = "\n".join([code(), source.stamp, wanted.key()])
-        return own.make(INDEX, key, lambda at: fill_index(at, source, *reached(source, wanted, say), wanted.is_rewritten, say))
+        return own.make(INDEX, key, lambda to: fill_index(to, source, *reached(source, wanted, say), wanted.is_rewritten, say))
     files, told = reached(source, wanted, say)
     key = "\n".join([code(), str(wanted.is_rewritten), *(f"{name} {version} {source.key(name, version)}" for name, version in files)])
-    return own.make(INDEX, key, lambda at: fill_index(at, source, files, told, wanted.is_rewritten, say))
+    return own.make(INDEX, key, lambda to: fill_index(to, source, files, told, wanted.is_rewritten, say))
 
 
-def fill_index(at, source, files, told, is_rewritten, say):
+def fill_index(to, source, files, told, is_rewritten, say):
     """Writes the files of an index: links for unchanged files in folders, else copies."""
     changed = [f"{told}\n"]
     for name, version in files:
-        data = source.data(name, version) if is_rewritten or not source.target(name, version) else None
-        data, kinds = copy_of(f"{name}/{version}/{name}.cabal", data, say) if is_rewritten else (data, set())
+        at = f"{file_name(name, 'package', source.path)}/{file_name(version, 'version', source.path)}"
         target = source.target(name, version)
-        os.makedirs(f"{at}/{name}", exist_ok=True)
+        data = source.data(name, version) if is_rewritten or not target else None
+        data, kinds = copy_of(f"{at}/{name}.cabal", data, say) if is_rewritten else (data, set())
         if kinds or not target:
-            os.mkdir(f"{at}/{name}/{version}")
-            put(f"{at}/{name}/{version}/{name}.cabal", data)
+            to.put(f"{at}/{name}.cabal", data)
         else:
-            os.symlink(target, f"{at}/{name}/{version}")
-        changed += [f"{name}/{version}/{name}.cabal\t{'; '.join(sorted(kinds))}\n"] * bool(kinds)
-    put(f"{at}/{CHANGED}", "".join(changed).encode("utf-8", "surrogateescape"))
+            to.link(at, target)
+        changed += [f"{at}/{name}.cabal\t{'; '.join(sorted(kinds))}\n"] * bool(kinds)
+    to.put(CHANGED, "".join(changed).encode("utf-8", "surrogateescape"))
 
 
-def fill_installed(at, units):
+def fill_installed(to, units):
     """Links the files of records, and writes the records of a dump. A repeated name gets a number in front."""
     taken = collections.Counter()
     for it in units:
-        name = os.path.basename(it.path) if it.path else f"{it.unit}.conf"
-        taken[name] += 1
-        place = f"{at}/{name}" if taken[name] == 1 else f"{at}/{taken[name]}-{name}"
+        taken[it.stem] += 1
+        name = f"{it.stem}.conf" if taken[it.stem] == 1 else f"{taken[it.stem]}-{it.stem}.conf"
         if it.path:
-            os.symlink(os.path.abspath(it.path), place)
+            to.link(name, os.path.abspath(it.path))
         else:
-            put(place, it.data)
+            to.put(name, it.data)
 
 
-def fill_project(at, project, local, made):
+def fill_project(to, project, local, made):
     """Fills a folder with links to the files of a project, and with copies of its changed local files."""
     links = {name: f"../../{name}" for name in FILES if os.path.isfile(os.path.join(project, name))}
-    links |= {kind: f"../{name}" for kind, name in made.items()}
-    links |= {path: "../" * (path.count("/") + 2) + path for path, (*_, kinds) in local.items() if not kinds}
-    for path in [*links, *(path for path in local if path not in links)]:
-        os.makedirs(os.path.dirname(os.path.join(at, path)), exist_ok=True)
-        if path in links:
-            os.symlink(links[path], os.path.join(at, path))
-        else:
-            put(os.path.join(at, path), local[path][1])
+    links.update({kind: f"../{name}" for kind, name in made.items()})
+    links.update({path: "../" * (path.count("/") + 2) + path for path, (*_, kinds) in local.items() if not kinds})
+    for path, target in links.items():
+        to.link(path, target)
+    for path in (it for it in local if it not in links):
+        to.put(path, local[path][1])
 
 
 def say_changes(lines, is_rewritten, say):
@@ -147,9 +143,9 @@ def say_changes(lines, is_rewritten, say):
 def made_folder(project, asked, say):
     """Makes all that the planner reads, and returns the folder to plan in and the words of the environment."""
     local = local_packages(project, asked.older_headers, say)
-    own = Own(project)
+    own = Own(project, say)
     own.check((INDEX, INSTALLED))
-    ghc = compiler(asked.with_compiler or "".join(fields(project, "with-compiler")[-1:]))
+    ghc = compiler(chosen(project, asked.with_compiler), say)
     units, told = records(ghc, not asked.no_store)
     say(f"{ghc.path}: {' '.join(ghc.words())}")
     for it in told:
@@ -157,11 +153,11 @@ def made_folder(project, asked, say):
     source, wanted = index(asked.index), Wanted(project, local, units, asked)
     own.open()
     try:
-        made = {INSTALLED: own.make(INSTALLED, code() + "\n".join(it.key() for it in units), lambda at: fill_installed(at, units))}
+        made = {INSTALLED: own.make(INSTALLED, code() + "\n".join(it.key() for it in units), lambda to: fill_installed(to, units))}
         made[INDEX] = made_index(own, source, wanted, say)
         return linked(project, own, local, made, asked.older_headers, say), ghc.words()
     except BaseException:
-        own.undo((INDEX, INSTALLED))
+        own.undo()
         raise
 
 
@@ -170,10 +166,9 @@ def linked(project, own, local, made, is_rewritten, say):
     copies = [(path, kinds) for path, (*_, kinds) in local.items() if kinds]
     names = {*made.values(), own_project(project, own, local, made, say, copies), PROJECT} if copies else {*made.values()}
     for kind, name in made.items():
-        own.link(os.path.join(project, kind), f"{OWN}/{name}")
+        own.link(kind, name)
     own.keep(names)
-    changes = read(os.path.join(own.path, made[INDEX], CHANGED)).decode("utf-8", "surrogateescape")
-    say_changes(changes.removesuffix("\n").split("\n"), is_rewritten, say)
+    say_changes(own.changes(made[INDEX]).removesuffix("\n").split("\n"), is_rewritten, say)
     say_ignored(project, say)
     return f"{OWN}/{PROJECT}" if copies else "."
 
@@ -184,15 +179,15 @@ def say_ignored(project, say):
     there = read(path).decode("utf-8", "replace").split() if os.path.isfile(path) else []
     lacking = [it for it in (f"/{OWN}/", f"/{INDEX}", f"/{INSTALLED}") if it not in there]
     if lacking:
-        say("\n".join(["lines for .gitignore:", *lacking]))
+        say("lines for .gitignore:", *lacking)
 
 
 def own_project(project, own, local, made, say, copies):
     """Makes the folder in place of a project with rewritten local files, and returns its name."""
     stated = [(path, hash_of(data), sorted(kinds)) for path, (_, data, kinds) in sorted(local.items())]
     key = code() + repr((made, [it for it in FILES if os.path.isfile(os.path.join(project, it))], stated))
-    name = own.make(PROJECT, key, lambda at: fill_project(at, project, local, made))
-    own.link(os.path.join(own.path, PROJECT), name)
+    name = own.make(PROJECT, key, lambda to: fill_project(to, project, local, made))
+    own.link_project(name)
     for path, kinds in copies:
         say(f"{path} stays as it is, and a rewritten copy of it is planned, in {OWN}/{PROJECT}: {'; '.join(sorted(kinds))}")
     return name

@@ -7,23 +7,31 @@ import hashlib
 import os
 import re
 
-from compiler import answer
-from refusal import Refusal, read
+from tool.folder.compiler import answer
+from tool.names import file_name
+from tool.refusal import Refusal, read, shown
 
 ID = re.compile(rb"(?im)^id[ \t]*:\s*(\S+)")
 NAME = re.compile(rb"(?im)^name[ \t]*:\s*(\S+)")
+END = ".conf"
 DEPENDS = re.compile(rb"(?im)^depends[ \t]*:(.*(?:\n[ \t]+.*)*)")
 
 
 class Record:
-    """A record: its path, or its own bytes; its unit, its package, and the units that it needs."""
+    """A record: its path, or its own bytes; its unit, its package, the units that it needs, and its file's name without
+    the end. Its names are those of units and packages, or missing."""
 
-    def __init__(self, path, data):
+    def __init__(self, path, data, where):
         self.path, self.data = path, None if path else data
-        unit, name = ID.search(data), NAME.search(data)
-        self.unit = unit[1].decode("utf-8", "replace") if unit else None
-        self.name = name[1].decode("utf-8", "replace") if name else None
+        self.unit, self.name = self.value(ID, data, "unit", where), self.value(NAME, data, "package", where)
         self.needs = [it.decode("utf-8", "replace") for found in DEPENDS.findall(data) for it in re.split(rb"[\s,]+", found) if it]
+        self.stem = file_name(os.path.basename(path)[: -len(END)], "unit", path) if path else self.unit or "unnamed"
+
+    @staticmethod
+    def value(field, data, kind, where):
+        """Returns the name in a field of a record, or none if it has no such field."""
+        found = field.search(data)
+        return file_name(found[1].decode("utf-8", "replace"), kind, where) if found else None
 
     def key(self):
         """Returns a key of what is written for this record: a link to its path, or its bytes."""
@@ -56,15 +64,17 @@ def stores(version):
 
 
 def records_of(database, ghc):
-    """Returns the records of a database: those of its files, or without files those that ghc-pkg prints."""
-    names = sorted(it for it in os.listdir(database) if it.endswith(".conf"))
+    """Returns the records of a database: those of its files, or without files those that ghc-pkg prints. A file whose
+    name begins with a dot is an editor's."""
+    names = sorted(it for it in os.listdir(database) if it.endswith(END) and not it.startswith("."))
     if names:
-        return [Record(f"{database}/{it}", read(f"{database}/{it}")) for it in names]
+        return [Record(f"{database}/{it}", read(f"{database}/{it}"), f"{database}/{it}") for it in names]
     program = ghc.ghc_pkg()
     if not program:
         raise Refusal(f"{database} has no files of records, and no ghc-pkg stands beside {ghc.path}, which would say what it has")
     dump = answer([program, "dump", "--global", "--no-user-package-db", f"--global-package-db={database}"])
-    return [Record(None, it.strip("\n").encode() + b"\n") for it in re.split(r"(?m)^---[ \t]*$", dump) if it.strip()]
+    found = [it.strip("\n").encode() + b"\n" for it in re.split(r"(?m)^---[ \t]*$", dump) if it.strip()]
+    return [Record(None, it, f"{program} dump") for it in found]
 
 
 def records(ghc, with_store):
@@ -74,10 +84,11 @@ def records(ghc, with_store):
     found, told = {}, []
     for database in [ghc.database] + (stores(ghc.version) if with_store else []):
         there = records_of(database, ghc)
-        again = [it for it in there if it.unit in found]
-        found.update({it.unit: it for it in there if it.unit not in found})
+        known = {it.unit for it in found.values() if it.unit}
+        again = [it for it in there if it.unit in known]
+        found.update({it.unit or it.path or "": it for it in there if it.unit not in known})
         told.append(f"{database}: {len(there)} records")
-        told += [f"{it.unit} stands in {database} too: the record of the earlier database counts" for it in again]
+        told += [f"{shown(it.unit)} stands in {database} too: the record of the earlier database counts" for it in again]
     unnamed = [it for it in found.values() if not it.unit or not it.name]
     told += [f"{it.path or 'a record of the dump'} has no id or no name, and the planner will refuse it" for it in unnamed]
     return list(found.values()), told

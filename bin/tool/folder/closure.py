@@ -8,7 +8,7 @@ plan, so names that only they have can be left out."""
 import functools
 import re
 
-from index import by_number
+from tool.folder.index import by_number
 
 # The ends of the names of dependency fields, and a pattern of the whole field.
 ENDS = (b"depends", b"build-tools")
@@ -26,7 +26,7 @@ MOST_FILES, MOST_BYTES = 20_000, 268_435_456
 @functools.lru_cache(maxsize=None)
 def ending(indent):
     """Returns the pattern of the end of a field: a line no deeper than the field, which is no comment."""
-    return re.compile(rb"\n[ \t]{0,%d}+(?![ \t\r\n]|--)" % indent)
+    return re.compile(rb"\n(?=([ \t]{0,%d}))\1(?![ \t\r\n]|--)" % indent)
 
 
 def dependency_fields(data, low):

@@ -7,7 +7,8 @@ import re
 import subprocess
 import sys
 
-from refusal import Refusal
+from tool.ends import status_of_program
+from tool.refusal import Refusal
 
 SKIPPED = re.compile(r"(?m)^skipped (.*) (\w+)$")
 MOST_NAMED = 20
@@ -30,7 +31,7 @@ def answer(words, where):
         ran = subprocess.run(words, cwd=where, stdin=subprocess.DEVNULL, stdout=subprocess.PIPE, check=False)
     except OSError as error:
         raise Refusal(f"{words[0]} can't be run: {error.strerror}") from error
-    return ran.stdout, ran.returncode
+    return ran.stdout, status_of_program(ran.returncode)
 
 
 def run(words, where, say):

@@ -1,14 +1,16 @@
 """Reads the parts of a project on the packages that it needs.
 
 In: its folder. Out: its project files, its local `.cabal` files by the planner's rules, and the names of
-`extra-packages`. Conditions are ignored: fields under all of them count. It leaves refusals to the planner."""
+`extra-packages`. For these fields under all conditions count; `holding` is for those under conditions that hold. It
+leaves refusals to the planner."""
 
 import os
 import re
 
-from elements import Field, Misread, elements, walk
-from older import decoded
-from refusal import Refusal, read
+from tool.folder import conditions
+from tool.folder.elements import Field, Misread, elements, walk
+from tool.folder.older import decoded
+from tool.refusal import Refusal, read
 
 FILES = ("cabal.project", "cabal.project.freeze", "cabal.project.local")
 REFUSED = re.compile(r"^[/~]|\*\*|[{}]|://|(^|/)\.\.(/|$)")
@@ -16,16 +18,38 @@ REFUSED = re.compile(r"^[/~]|\*\*|[{}]|://|(^|/)\.\.(/|$)")
 
 def fields(folder, name):
     """Returns the values of all fields of this name in the project files, each as one text."""
-    return [it.text() for file in FILES for it in read_elements(folder, file) if isinstance(it, Field) and it.name == name]
+    return [it.text() for file in FILES for it in walk(read_elements(folder, file)) if isinstance(it, Field) and it.name == name]
+
+
+def holding(folder, name, platform):
+    """Returns the values of the fields of this name that stand under no condition, or under one that holds."""
+    return [it.text() for file in FILES for it in kept(read_elements(folder, file), platform) if it.name == name]
+
+
+def kept(items, platform):
+    """Yields the fields of elements outside of sections, except those in branches that don't hold for certain."""
+    is_open = False
+    for it in items:
+        if isinstance(it, Field):
+            yield it
+            continue
+        if it.name == "if":
+            is_open = True
+        if it.name not in ("if", "elif", "else") or not is_open:
+            continue
+        holds = True if it.name == "else" else conditions.value(it.args, platform)
+        if holds:
+            yield from kept(it.items, platform)
+        is_open = holds is False
 
 
 def read_elements(folder, file):
-    """Returns all elements of a project file, or none if it is missing."""
+    """Returns the elements of a project file, or none if it is missing."""
     path = os.path.join(folder, file)
     if not os.path.isfile(path):
         return []
     try:
-        return list(walk(elements(decoded(read(path))[0])[0]))
+        return elements(decoded(read(path))[0])[0]
     except Misread as error:
         raise Refusal(f"{file} can't be read: {error}") from error
 

@@ -1,0 +1,1 @@
+"""The modules of the scripts in `bin` and `bench`."""

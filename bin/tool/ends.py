@@ -1,0 +1,77 @@
+"""How a script ends: with the status of its answer, or with one line and a status of its own. A failure of the script
+never has the status of an answer."""
+
+import os
+import signal
+import sys
+
+from tool.refusal import Refusal, escaped
+
+# The status of wrong words, and that of a script that fails or refuses.
+WRONG_WORDS, FAILED = 64, 70
+BY_SIGNAL = 128
+
+
+def say(name, text):
+    """Prints one line on standard error, if that is open."""
+    try:
+        if sys.stderr is not None:
+            print(f"{name}: {escaped(text)}", file=sys.stderr, flush=True)
+    except OSError:
+        pass
+
+
+def cause(error):
+    """Returns the line for a failure that nothing else has told of."""
+    if isinstance(error, OSError) and error.strerror:
+        path = error.filename if error.filename is not None else "standard output"
+        return f"{os.fsdecode(path) if isinstance(path, (str, bytes)) else path} can't be read or written: {error.strerror}"
+    if isinstance(error, MemoryError):
+        return "out of memory"
+    if isinstance(error, RecursionError):
+        return "the input is nested too deeply"
+    return f"failed: {type(error).__name__}: {error}"
+
+
+def status_of(name, main, prints):
+    """Runs a script's main function, and returns the status to end with. `prints` is whether it prints an answer."""
+    try:
+        if sys.stdout is None and prints:
+            raise Refusal("standard output is closed")
+        for stream in (it for it in (sys.stdout, sys.stderr) if it is not None):
+            stream.reconfigure(errors="backslashreplace")
+        status = main()
+        if sys.stdout is not None:
+            sys.stdout.flush()
+        return status
+    except KeyboardInterrupt:
+        say(name, "ended; what was made before stays")
+        return BY_SIGNAL + signal.SIGINT
+    except BrokenPipeError:
+        say(name, "nobody reads standard output any more")
+    except Exception as error:  # pylint: disable=broad-except
+        say(name, error if isinstance(error, Refusal) else cause(error))
+    return FAILED
+
+
+def ended(name, main, prints=True):
+    """Runs a script's main function and ends the script."""
+    try:
+        status = status_of(name, main, prints)
+    except SystemExit as end:
+        status = end.code if isinstance(end.code, int) else FAILED if end.code else 0
+        if isinstance(end.code, str):
+            say(name, end.code)
+    if sys.stdout is not None:
+        try:
+            sys.stdout.flush()
+        except (OSError, ValueError):
+            # What is left is given up, so that Python doesn't try again at its own end.
+            os.dup2(os.open(os.devnull, os.O_WRONLY), 1)
+            status = FAILED
+    sys.exit(status)
+
+
+def status_of_program(code):
+    """Returns the status of a program that ended with this code of `subprocess`: a signal's is 128 and its number."""
+    return code if code >= 0 else BY_SIGNAL - code

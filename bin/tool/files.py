@@ -1,0 +1,342 @@
+"""What the scripts write, rename and remove. Nothing else in `bin` and `bench` does.
+
+A path below a folder is walked part by part from the folder's handle, and no link on it is followed. A new file never
+replaces another one, except where a call says so. What is removed is looked at first."""
+
+import contextlib
+import errno
+import os
+import secrets
+import shutil
+import stat
+import tempfile
+
+from tool.refusal import Refusal, shown
+
+FOLDER = os.O_RDONLY | os.O_DIRECTORY | os.O_NOFOLLOW | os.O_CLOEXEC
+NEW_FILE = os.O_WRONLY | os.O_CREAT | os.O_EXCL | os.O_NOFOLLOW | os.O_CLOEXEC
+# The folders that a removal enters below one another, and the most bytes of a small file that is read.
+DEEPEST, SMALL = 64, 4096
+
+
+class Foreign(Exception):
+    """A file that isn't of the tool: its path."""
+
+
+def parts(path):
+    """Returns the names of a path below a folder."""
+    names = path.split("/")
+    if not all(it not in ("", ".", "..") and "\0" not in it for it in names):
+        raise Refusal(f"'{shown(path)}' isn't a path below a folder")
+    return names
+
+
+def open_folder(name, within=None):
+    """Returns the handle of a folder, which is no link."""
+    return os.open(name, FOLDER, dir_fd=within)
+
+
+@contextlib.contextmanager
+def opened(name, within=None):
+    """Opens a folder, which is no link, and closes it."""
+    handle = open_folder(name, within)
+    try:
+        yield handle
+    finally:
+        os.close(handle)
+
+
+def kind_of(name, within):
+    """Returns the kind of a file by its mode, or none if it is missing. A link isn't followed."""
+    try:
+        return os.stat(name, dir_fd=within, follow_symlinks=False).st_mode
+    except FileNotFoundError:
+        return None
+
+
+def small_file(name, within):
+    """Returns the first bytes of a regular file, or none if it is missing or something else. It never waits."""
+    try:
+        handle = os.open(name, os.O_RDONLY | os.O_NOFOLLOW | os.O_NONBLOCK | os.O_CLOEXEC, dir_fd=within)
+    except OSError:
+        return None
+    try:
+        return os.read(handle, SMALL) if stat.S_ISREG(os.fstat(handle).st_mode) else None
+    finally:
+        os.close(handle)
+
+
+def write_all(handle, data):
+    """Writes all bytes."""
+    left = memoryview(data)
+    while left:
+        left = left[os.write(handle, left) :]
+
+
+def put(name, data, within, mode=0o644):
+    """Makes a file with this content. It must be missing."""
+    handle = os.open(name, NEW_FILE, mode, dir_fd=within)
+    try:
+        write_all(handle, data)
+        if mode & 0o111:
+            os.fchmod(handle, mode)
+    finally:
+        os.close(handle)
+
+
+class Filling:
+    """A new folder that is being filled. Its folders are made as they are needed."""
+
+    def __init__(self, handle):
+        self.handle = handle
+
+    @contextlib.contextmanager
+    def _parent(self, path):
+        """Opens the folder of a path, and yields its handle and the last name of the path."""
+        *folders, last = parts(path)
+        at = os.dup(self.handle)
+        try:
+            for name in folders:
+                with contextlib.suppress(FileExistsError):
+                    os.mkdir(name, dir_fd=at)
+                below = open_folder(name, at)
+                os.close(at)
+                at = below
+            yield at, last
+        finally:
+            os.close(at)
+
+    def put(self, path, data):
+        with self._parent(path) as (at, name):
+            put(name, data, at)
+
+    def link(self, path, target):
+        with self._parent(path) as (at, name):
+            os.symlink(target, name, dir_fd=at)
+
+
+def entries(handle):
+    """Returns the names in a folder with their modes."""
+    return [(name, kind_of(name, handle)) for name in sorted(os.listdir(handle))]
+
+
+def look(handle, is_made, path=()):
+    """Raises an error if a folder has something for which `is_made`, of its path and mode, says no."""
+    for name, mode in entries(handle):
+        at = (*path, name)
+        if len(at) > DEEPEST or mode is None or not is_made(at, mode):
+            raise Foreign("/".join(at))
+        if stat.S_ISDIR(mode):
+            with opened(name, handle) as below:
+                look(below, is_made, at)
+
+
+def empty(handle):
+    """Removes what is in a folder."""
+    for name, mode in entries(handle):
+        if mode is not None and stat.S_ISDIR(mode):
+            with opened(name, handle) as below:
+                empty(below)
+            os.rmdir(name, dir_fd=handle)
+        else:
+            os.unlink(name, dir_fd=handle)
+
+
+def remove_folder(name, within, is_made):
+    """Removes a folder, if all in it is of the tool; else it raises an error before anything is removed."""
+    with opened(name, within) as handle:
+        look(handle, is_made)
+        empty(handle)
+    os.rmdir(name, dir_fd=within)
+
+
+def unlink(name, within):
+    """Removes a file or a link."""
+    os.unlink(name, dir_fd=within)
+
+
+def remove_empty(name, within):
+    """Removes a folder that has nothing in it."""
+    os.rmdir(name, dir_fd=within)
+
+
+def make_folder(name, within=None):
+    """Makes a folder. It must be missing."""
+    os.mkdir(name, dir_fd=within)
+
+
+def rename(old, new, within):
+    """Gives a file of a folder another name there, which must be missing or an empty folder."""
+    if kind_of(new, within) is not None and not stat.S_ISDIR(kind_of(new, within)):
+        raise FileExistsError(errno.EEXIST, os.strerror(errno.EEXIST), new)
+    os.rename(old, new, src_dir_fd=within, dst_dir_fd=within)
+
+
+def set_link(name, target, within, room, is_made):
+    """Sets a link in a folder in one step. It replaces only a link for whose target `is_made` says yes. `room` is the
+    handle of another folder, in which the new link is made first."""
+    mode = kind_of(name, within)
+    if mode is None:
+        os.symlink(target, name, dir_fd=within)
+        return
+    if not stat.S_ISLNK(mode) or not is_made(os.readlink(name, dir_fd=within)):
+        raise FileExistsError(errno.EEXIST, os.strerror(errno.EEXIST), name)
+    if os.readlink(name, dir_fd=within) == target:
+        return
+    new = f"link-{secrets.token_hex(8)}"
+    os.symlink(target, new, dir_fd=room)
+    try:
+        os.rename(new, name, src_dir_fd=room, dst_dir_fd=within)
+    except OSError:
+        os.unlink(new, dir_fd=room)
+        raise
+
+
+def replace(path, data, mode=0o644):
+    """Replaces a regular file in one step, or makes it if it is missing."""
+    with contextlib.suppress(FileNotFoundError):
+        if not stat.S_ISREG(os.lstat(path).st_mode):
+            raise Refusal(f"{path} is no regular file, and isn't replaced")
+    new = f"{path}.{secrets.token_hex(8)}.new"
+    try:
+        put(new, data, None, mode)
+        os.replace(new, path)
+    except BaseException:
+        with contextlib.suppress(FileNotFoundError):
+            os.unlink(new)
+        raise
+
+
+def replace_folder(path, files):
+    """Replaces a folder of regular files by one with these: their bytes and modes by name. All of them are written
+    before anything is renamed. Nobody sees a part of the new files beside a part of the old ones."""
+    beside = f"{path}.{secrets.token_hex(8)}"
+    new, old = f"{beside}.new", f"{beside}.old"
+    os.mkdir(new)
+    try:
+        for name, (data, mode) in files.items():
+            put(f"{new}/{name}", data, None, mode)
+        has_old = os.path.lexists(path)
+        if has_old:
+            with opened(path) as handle:
+                look(handle, lambda at, mode: len(at) == 1 and stat.S_ISREG(mode))
+            os.rename(path, old)
+        try:
+            os.rename(new, path)
+        except BaseException:
+            if has_old:
+                os.rename(old, path)
+            raise
+    except Foreign as foreign:
+        raise Refusal(f"{path} has {foreign}, which is no regular file, and isn't replaced") from foreign
+    finally:
+        shutil.rmtree(new, ignore_errors=True)
+    shutil.rmtree(old, ignore_errors=True)
+
+
+@contextlib.contextmanager
+def given_file(path):
+    """Opens a file that the user named, or one in a room of the script, to write it anew."""
+    with open(path, "wb", buffering=1 << 22) as file:
+        yield file
+
+
+class Room:
+    """A folder of a script's own, which made it."""
+
+    def __init__(self, path):
+        self.path = os.fspath(path)
+
+    def __str__(self):
+        return self.path
+
+    def __fspath__(self):
+        return self.path
+
+    def folder(self, path):
+        """Makes a folder with those above it, and returns its whole path."""
+        whole = f"{self.path}/{'/'.join(parts(path))}"
+        os.makedirs(whole, exist_ok=True)
+        return whole
+
+    def _place(self, path):
+        names = parts(path)
+        if names[1:]:
+            self.folder("/".join(names[:-1]))
+        return f"{self.path}/{path}"
+
+    def write(self, path, content):
+        """Writes a file, with the folders above it."""
+        with open(self._place(path), "wb") as file:
+            file.write(content.encode() if isinstance(content, str) else content)
+
+    def link(self, path, target):
+        """Makes a link, with the folders above it."""
+        os.symlink(target, self._place(path))
+
+    def copy(self, source, path, without=()):
+        """Copies a file, or a folder without the files of these names. Links stay links."""
+        if os.path.isdir(source):
+            shutil.copytree(source, self._place(path), symlinks=True, ignore=shutil.ignore_patterns(*without), dirs_exist_ok=True)
+        else:
+            shutil.copyfile(source, self._place(path))
+
+    def share(self, source, path):
+        """Copies a folder by links to its files, or copies them if they are on another disk."""
+        shutil.copytree(source, self._place(path), copy_function=hard_link)
+
+    def remove(self, path):
+        """Removes a file or a folder, if it is there."""
+        whole = f"{self.path}/{'/'.join(parts(path))}"
+        if os.path.islink(whole) or not os.path.isdir(whole):
+            with contextlib.suppress(FileNotFoundError):
+                os.remove(whole)
+        else:
+            shutil.rmtree(whole)
+
+
+def scratch(within):
+    """Returns a new file without a name, on the disk of a folder."""
+    return tempfile.TemporaryFile(dir=within)
+
+
+@contextlib.contextmanager
+def lock_file(room, name):
+    """Opens a file of a room to lock it, and makes it if it is missing. It is a regular file, and no link."""
+    handle = os.open(f"{room}/{name}", os.O_RDWR | os.O_CREAT | os.O_NOFOLLOW | os.O_NONBLOCK | os.O_CLOEXEC, 0o600)
+    try:
+        if not stat.S_ISREG(os.fstat(handle).st_mode):
+            raise Refusal(f"{room}/{name} is no regular file")
+        yield handle
+    finally:
+        os.close(handle)
+
+
+def hard_link(one, other):
+    """Links a file, or copies it if the other name is on another disk."""
+    try:
+        os.link(one, other)
+    except OSError:
+        shutil.copyfile(one, other)
+
+
+@contextlib.contextmanager
+def new_room(prefix, within=None):
+    """Yields a new folder, which is removed at the end."""
+    with tempfile.TemporaryDirectory(prefix=prefix, dir=within) as path:
+        yield Room(path)
+
+
+def made_room(path):
+    """Returns the room of a folder in a room of the script, made if it is missing."""
+    os.makedirs(path, exist_ok=True)
+    return Room(path)
+
+
+def cache_room(path):
+    """Returns the room of a folder that the user's environment names, made if it is missing. It must be the user's own."""
+    os.makedirs(path, mode=0o700, exist_ok=True)
+    of = os.lstat(path)
+    if not stat.S_ISDIR(of.st_mode) or of.st_uid != os.geteuid():
+        raise Refusal(f"{path} is a link, or another user's, and nothing is written there")
+    return Room(path)

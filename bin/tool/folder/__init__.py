@@ -1,0 +1,1 @@
+"""`bin/plan-folder`: from a cabal project to a folder to plan in."""
