@@ -8,7 +8,7 @@ import shutil
 import subprocess
 import tarfile
 
-import plans
+from beside import plans
 from tool import files
 
 CONFIG = "repository here\n  url: file+noindex://{}\n"

@@ -2,7 +2,7 @@
 
 import json
 
-import plans
+from beside import plans
 
 VERDICTS = {0: "plan", 1: "no plan", 2: "gave up", 3: "refused"}
 

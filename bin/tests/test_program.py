@@ -9,8 +9,8 @@ import sys
 from tests.rooms import TOP, Room
 
 SUMS = """import sys
-sys.path[:0] = ['.', 'build']
-from program import *
+sys.path[:0] = ['.']
+from tool.program import *
 crates = below(PROGRAM, table(), {})
 print(sum_of(TOP, crates, sources(crates)))
 """

@@ -1,4 +1,4 @@
-//! Runs the planner on cases. In go files of cases, in the notation of `bin/build/cases.py`. Out comes, for each file,
+//! Runs the planner on cases. In go files of cases, in the notation of `bin/tool/cases.py`. Out comes, for each file,
 //! how many runs passed, and the answers of the others. Each run is made over a folder in memory, and over a folder of
 //! the system too if its files are small. Its answer must be the one written in the case, also after a failed call or
 //! write. This program has no contract.

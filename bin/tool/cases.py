@@ -34,10 +34,10 @@ backslash at the end of a line removes its line end. A line `\\pad SIZE` fills u
 so many bytes. Empty lines at the end of a file or an output are ignored.
 """
 
-import os
 import re
 
-TOP = os.path.dirname(os.path.dirname(os.path.dirname(os.path.realpath(__file__))))
+from tool.program import TOP
+
 DATA = f"{TOP}/crates/case_runs/data"
 ARGS = f"{TOP}/crates/case_runs/args"
 MARKS = ("# ", "--- ", "+ ", "$ ")

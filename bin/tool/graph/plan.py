@@ -1,7 +1,7 @@
 """The picture of a plan. In: the nodes of its JSON, and a name or none. Out: DOT with the nodes by level. A node is
 behind all its needs, and the nodes of one level can be built at the same time."""
 
-import dot
+from tool.graph import dot
 
 LOOKS = {
     "installed": {"fillcolor": "gray90", "color": "gray60"},

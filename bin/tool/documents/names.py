@@ -5,13 +5,13 @@ import glob
 import os
 import re
 
-from pages import TOP
-from program import table
+from tool.documents.pages import TOP
+from tool.program import table
 
 CRATES = set(os.listdir(f"{TOP}/crates"))
 # The sources of names, without this check.
 SOURCES = [f"crates/*/{it}/**" for it in ("src", "specs", "proofs", "data")] + ["crates/*/args", "crates/*/stdout", "crates.txt", "HANDLES"]
-SOURCES += ["bin/*", "bin/build/*", "bin/tool/**", "bench/**", "examples/**"]
+SOURCES += ["bin/*", "bin/tool/**", "bench/**", "examples/**"]
 PARTS = ("src", "specs", "proofs", "data", "must-fail", "mistakes")
 STARTS = {"crates", "docs", "bin", "bench", "examples", "src", "specs", "proofs", "must-fail", "mistakes"} | CRATES
 ENDS = (".rt", ".antt", ".md", ".edit", ".txt", ".py")

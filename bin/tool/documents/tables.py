@@ -4,9 +4,9 @@ import os
 import re
 import subprocess
 
-from names import CRATES, defined
-from pages import TOP, Failure, cells, names
-from program import table
+from tool.documents.names import CRATES, defined
+from tool.documents.pages import TOP, Failure, cells, names
+from tool.program import table
 
 # Names of std, and words of the language.
 PLAIN = {"Eq", "From", "Hash", "Ord", "clause", "for", "impl", "law"}

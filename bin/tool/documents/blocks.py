@@ -6,8 +6,8 @@ import os
 import re
 import subprocess
 
-from cases import DATA, BadCase, cases
-from pages import TOP, Failure, cells, names
+from tool.cases import DATA, BadCase, cases
+from tool.documents.pages import TOP, Failure, cells, names
 from tool import files as own_files
 
 SUBJECT = "examples"

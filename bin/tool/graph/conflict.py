@@ -3,8 +3,7 @@ ranges. Out: DOT with a node for each variable of the conflict, and an edge for 
 
 import re
 
-import asks
-import dot
+from tool.graph import asks, dot
 
 # The most lines of ranges at an edge, and the most versions at a node.
 RANGES, VERSIONS = 4, 6

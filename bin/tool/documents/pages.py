@@ -3,7 +3,8 @@
 import os
 import re
 
-TOP = os.path.dirname(os.path.dirname(os.path.dirname(os.path.realpath(__file__))))
+from tool.program import TOP
+
 SPAN = re.compile(r"(`+)([^`\n]+)\1")
 
 

@@ -1,6 +1,6 @@
 """Checks of the files of cases: their form, and the number of runs that the program of cases counts in each."""
 
-from cases import TOP, count, faults, names
+from tool.cases import TOP, count, faults, names
 
 
 def checks(_):

@@ -97,7 +97,7 @@ def built_program():
         return checked(program)
     if is_released(total):
         return checked(RELEASE)
-    from steps import Build, built
+    from tool.steps import Build, built
 
     if not built(OUT, program, Build(TOP, f"{OUT}/work", crates), paths, sum_of):
         raise Refusal("the program could not be built")

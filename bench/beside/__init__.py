@@ -1,0 +1,1 @@
+"""Two planners side by side."""

@@ -1,0 +1,1 @@
+"""Pictures of plans and conflicts, as DOT."""
