@@ -89,9 +89,9 @@ class Room(unittest.TestCase):
         return ran
 
     def folder(self, *words, program=None, **how):
-        """Runs `bin/plan-folder` in the project, with the index and the program of the room."""
+        """Runs `cabal-plan folder` in the project, with the index and the program of the room."""
         planner = program or self.script("planner", "#!/bin/sh\necho plan\n")
-        return self.run_script([f"{TOP}/bin/plan-folder", f"--index={self.room}/packages", f"--program={planner}", *words], **how)
+        return self.run_script([f"{TOP}/bin/cabal-plan", "folder", f"--index={self.room}/packages", f"--program={planner}", *words], **how)
 
     def is_untouched(self, before, besides=()):
         """Checks that all files of the room are as they were, except those at or below these paths."""

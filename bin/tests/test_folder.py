@@ -1,4 +1,4 @@
-"""`bin/plan-folder` over projects of strangers: it removes, writes and runs nothing that isn't its own."""
+"""`cabal-plan folder` over projects of strangers: it removes, writes and runs nothing that isn't its own."""
 
 import fcntl
 import os
@@ -76,7 +76,7 @@ class Works(Room):
         for number in range(200):
             self.write(f"packages/p{number}x/1/p{number}x.cabal", PACKAGE.format(f"p{number}x", "1"))
         self.write("src/project/main.cabal", CABAL + "".join(f"    , p{it}x\n" for it in range(200)))
-        words = [f"{TOP}/bin/plan-folder", f"--index={self.room}/packages", f"--program={self.script('planner', '#!/bin/sh')}"]
+        words = [f"{TOP}/bin/cabal-plan", "folder", f"--index={self.room}/packages", f"--program={self.script('planner', '#!/bin/sh')}"]
         for wait in (0.05, 0.1, 0.12, 0.15, 0.2, 0.3):
             with subprocess.Popen(words, cwd=self.project, env=self.environment(), stdout=subprocess.DEVNULL, stderr=subprocess.DEVNULL) as ran:
                 time.sleep(wait)
@@ -93,7 +93,7 @@ class Works(Room):
         self.assertEqual(0, self.folder().returncode)
 
     def test_many_first_runs_at_once(self):
-        words = [f"{TOP}/bin/plan-folder", f"--index={self.room}/packages", f"--program={self.script('planner', '#!/bin/sh')}"]
+        words = [f"{TOP}/bin/cabal-plan", "folder", f"--index={self.room}/packages", f"--program={self.script('planner', '#!/bin/sh')}"]
         how = {"cwd": self.project, "env": self.environment(), "stdout": subprocess.DEVNULL, "stderr": subprocess.PIPE}
         running = [subprocess.Popen(words, **how) for _ in range(6)]
         told = [(it.communicate()[1].decode(), it.returncode) for it in running]
@@ -190,7 +190,7 @@ class Links(Room):
         os.remove(f"{self.project}/index")
         os.symlink(".plan-folder/index-0123456789abcdef", f"{self.project}/index")
         before = listing(self.room)
-        self.is_failure(self.run_script([f"{TOP}/bin/plan-folder", f"--index={self.room}/nowhere", f"--program={self.room}/planner"]), "there is no")
+        self.is_failure(self.run_script([f"{TOP}/bin/cabal-plan", "folder", f"--index={self.room}/nowhere", f"--program={self.room}/planner"]), "there is no")
         self.is_untouched(before)
 
     def test_what_the_user_has_put_into_the_folder_stays(self):
@@ -286,7 +286,7 @@ class Names(Room):
                 told.size = len(PACKAGE.format("a", "1"))
                 tar.addfile(told, io.BytesIO(PACKAGE.format("a", "1").encode()))
         before = listing(self.room)
-        ran = self.run_script([f"{TOP}/bin/plan-folder", f"--index={self.room}/bad.tar", f"--program={self.script('planner', '#!/bin/sh')}"])
+        ran = self.run_script([f"{TOP}/bin/cabal-plan", "folder", f"--index={self.room}/bad.tar", f"--program={self.script('planner', '#!/bin/sh')}"])
         self.assertEqual(0, ran.returncode, ran.err)
         self.is_untouched(before, OURS)
 
@@ -358,7 +358,7 @@ class Failures(Room):
     def test_closed_streams(self):
         planner = self.script("planner", "#!/bin/sh\necho plan\n")
         for words in ("", "--run"):
-            line = f"exec {TOP}/bin/plan-folder --index={self.room}/packages --program={planner} {words}"
+            line = f"exec {TOP}/bin/cabal-plan folder --index={self.room}/packages --program={planner} {words}"
             for closed in (">&-", "2>&-", ">&- 2>&-", ">/dev/full"):
                 with self.subTest(f"{words} {closed}"):
                     ran = self.run_script(["sh", "-c", f"{line} {closed}"])
@@ -381,7 +381,7 @@ class Failures(Room):
         self.assertNotIn("\x1b", ran.err)
 
     def test_without_a_home(self):
-        ran = self.folder(environment=self.environment(HOME=None))
+        ran = self.folder("--no-store", environment=self.environment(HOME=None))
         self.assertEqual(0, ran.returncode, ran.err)
 
     def test_a_project_that_can_not_be_written(self):

@@ -80,6 +80,11 @@ def checked(path):
     return path
 
 
+def release():
+    """Returns the name of the release."""
+    return first_word(f"{DIST}/VERSION") or "unknown"
+
+
 def is_released(total):
     """Returns whether the release was built of the sources with this sum, and is for this machine."""
     return first_word(RELEASED_SOURCES) == total and platform.machine() == "x86_64"

@@ -1,1 +1,1 @@
-"""`bin/plan-folder`: from a cabal project to a folder to plan in."""
+"""`cabal-plan folder`: from a cabal project to a folder to plan in."""

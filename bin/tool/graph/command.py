@@ -1,32 +1,20 @@
-#!/usr/bin/env python3
-"""Draws the JSON of `plan --json`: a plan, or the conflict of `no plan`. It prints DOT, or a picture with `--svg`,
-which needs Graphviz's dot.
-
-    cabal-plan plan --json | plan-graph [OPTION ..]
-    plan-graph [OPTION ..] FILE
-
-    --svg              a picture in place of DOT
-    --why=NAME         of a plan only what leads to a package, named with its version or without
-    --all-needs        of a plan also the edges that longer ways imply
-    --folder=PATH      of a conflict the folder that was planned, `.` where it isn't given: its files have the ranges, which the JSON hasn't
-    --index=PATH, --installed=PATH    as they were given to `plan`, below that folder
-
-Ends with 0 where it has drawn, 1 where the input is none of the two, a file or dot fails, or the name isn't in the plan, and 64 on other words."""
+"""`cabal-plan graph`: draws the JSON of `plan --json`, a plan or the conflict of `no plan`."""
 
 import json
-import os
 import shutil
 import subprocess
 import sys
 
-TOP = os.path.dirname(os.path.dirname(os.path.realpath(__file__)))
-sys.dont_write_bytecode = True
-
-from tool.ends import ended
 from tool.graph import asks, conflict, plan
+from tool.planner import Words
 
 KEYS = {"plan": ("nodes", {"component", "id", "kind", "needs", "package", "unbuildable"}), "no plan": ("conflict", None)}
-VALUES = {"why": "", "folder": ".", "index": "index", "installed": "installed"}
+TEXT = """It reads the answer from FILE or standard input, as in
+
+    cabal-plan plan --json | cabal-plan graph --svg >plan.svg
+
+and prints DOT, or a picture with --svg, which needs Graphviz. The status is 0 where it has drawn, 1 where the input is no
+plan and no conflict, a file or dot fails, or the name isn't in the plan, and 64 if the words are wrong."""
 
 
 class Refused(Exception):
@@ -34,19 +22,16 @@ class Refused(Exception):
 
 
 def words_of(words):
-    """Returns the options of the words, or none where they have no reading."""
-    of = {**VALUES, "svg": False, "all-needs": False, "file": None}
-    for word in words:
-        name, mark, value = word[2:].partition("=")
-        if word in ("--svg", "--all-needs"):
-            of[name] = True
-        elif word.startswith("--") and name in VALUES and mark and value:
-            of[name] = value
-        elif word.startswith("-") and word != "-" or of["file"] is not None:
-            return None
-        else:
-            of["file"] = word
-    return of
+    """Returns the options."""
+    parser = Words("graph", description=TEXT)
+    parser.add_argument("file", metavar="FILE", nargs="?", help="the answer of `plan --json`; else standard input")
+    parser.add_argument("--svg", action="store_true", help="a picture in place of DOT")
+    parser.add_argument("--why", metavar="NAME", default="", help="of a plan only what leads to a package, named with its version or without")
+    parser.add_argument("--all-needs", action="store_true", help="of a plan also the edges that longer ways imply")
+    parser.add_argument("--folder", metavar="PATH", default=".", help="of a conflict the folder that was planned: its files have the ranges")
+    parser.add_argument("--index", metavar="PATH", default="index", help="as it was given to `plan`, below that folder")
+    parser.add_argument("--installed", metavar="PATH", default="installed", help="as it was given to `plan`, below that folder")
+    return parser.parse_args(words)
 
 
 def answer_of(path):
@@ -95,28 +80,18 @@ def svg_of(text):
 
 def main(words):
     of = words_of(words)
-    if of is None:
-        print(__doc__.split("\n\n", 1)[1], file=sys.stderr)
-        return 64
     try:
-        answer = answer_of(of["file"])
+        answer = answer_of(of.file)
         if answer["status"] == "plan":
-            text = plan.picture(answer, of["why"], of["all-needs"])
+            text = plan.picture(answer, of.why, of.all_needs)
         else:
-            text = conflict.picture(answer, (of["folder"], of["index"], of["installed"]))
-        sys.stdout.buffer.write((svg_of(text) if of["svg"] else text).encode("utf-8", "backslashreplace"))
+            text = conflict.picture(answer, (of.folder, of.index, of.installed))
+        sys.stdout.buffer.write((svg_of(text) if of.svg else text).encode("utf-8", "backslashreplace"))
         sys.stdout.flush()
     except (Refused, asks.BadFile) as error:
-        print(f"plan-graph: {error}", file=sys.stderr)
+        print(f"cabal-plan graph: {error}", file=sys.stderr)
         return 1
     except plan.NoSuchName as error:
-        print(f"plan-graph: the plan has no node of the name {error}", file=sys.stderr)
-        return 1
-    except OSError as error:
-        print(f"plan-graph: standard output: {error.strerror}", file=sys.stderr)
+        print(f"cabal-plan graph: the plan has no node of the name {error}", file=sys.stderr)
         return 1
     return 0
-
-
-if __name__ == "__main__":
-    ended("plan-graph", lambda: main(sys.argv[1:]))

@@ -1,37 +1,27 @@
-#!/usr/bin/env python3
-"""Prepares a cabal project for `cabal-plan`. Run it in the project.
-
-    bin/plan-folder [OPTIONS] [-- WORDS OF THE PLAN]
-
-It sets the link `installed` to the records of the compiler and of cabal's store, and the link `index` to the packages
-that the project can reach. It prints the words to plan with. Its files are in `.plan-folder`, and it changes no other
-file of the project. Messages go to standard error. The status is 0; 64 if the words are wrong; 70 after a refusal; with
---run it is that of the plan."""
+"""`cabal-plan folder`: prepares a cabal project for the planner."""
 
 import argparse
 import os
 import shlex
 import sys
 
-TOP = os.path.dirname(os.path.dirname(os.path.realpath(__file__)))
-sys.dont_write_bytecode = True
-
-from tool.ends import WRONG_WORDS, ended
 from tool.folder.folder import made_folder
 from tool.folder.plan import run, still_skipped
+from tool.planner import Words
+from tool.program import TOP
 from tool.refusal import Refusal, escaped
 
 COMMANDS = ("plan", "freeze", "replay")
+TEXT = """Run it in the folder of a project. It sets the link `installed` to the records of the compiler and of cabal's
+store, and the link `index` to the packages that the project can reach. It prints the words to plan with. Its
+files are in `.plan-folder`, and it changes no other file of the project. Messages go to standard error.
 
-
-class Words(argparse.ArgumentParser):
-    def error(self, message):
-        self.exit(WRONG_WORDS, f"plan-folder: {message}; --help lists the options\n")
+The status is 0; 64 if the words are wrong; 70 after a refusal; with --run it is that of the plan."""
 
 
 def say(text, *lines):
     """Prints a message on standard error, and lines that can be copied below it."""
-    print(f"plan-folder: {escaped(text)}", *lines, sep="\n", file=sys.stderr, flush=True)
+    print(f"cabal-plan folder: {escaped(text)}", *lines, sep="\n", file=sys.stderr, flush=True)
 
 
 def versions(text):
@@ -41,10 +31,10 @@ def versions(text):
     return int(text)
 
 
-def words(given):
+def words_of(given):
     """Returns the options, and the words of the plan."""
     at = given.index("--") if "--" in given else len(given)
-    parser = Words(prog="plan-folder", allow_abbrev=False, usage="bin/plan-folder [OPTIONS] [-- WORDS OF THE PLAN]")
+    parser = Words("folder", usage="cabal-plan folder [OPTION ..] [-- WORDS OF THE PLAN]", description=TEXT)
     parser.add_argument("--index", metavar="PATH", help="the packages: a folder of NAME/VERSION/NAME.cabal, or a tar; else the 01-index.tar of cabal")
     parser.add_argument("--with-compiler", metavar="PATH", help="the ghc; else what the project says, or the one on the PATH")
     parser.add_argument("--no-store", action="store_true", help="leaves out the records of cabal's store")
@@ -61,8 +51,8 @@ def plan_words(program, environment, further):
     return [program, command, *environment, *rest]
 
 
-def main():
-    asked, further = words(sys.argv[1:])
+def main(words):
+    asked, further = words_of(words)
     program = os.path.abspath(asked.program or f"{TOP}/bin/cabal-plan")
     if not os.path.isfile(program) or not os.access(program, os.X_OK):
         raise Refusal(f"there is no program {program}")
@@ -74,7 +64,3 @@ def main():
         still_skipped(plan_words(program, environment, []), where, say)
     print(" ".join((["cd", shlex.quote(where), "&&"] if where != "." else []) + [shlex.quote(it) for it in told]))
     return 0
-
-
-if __name__ == "__main__":
-    ended("plan-folder", main)
