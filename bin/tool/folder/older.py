@@ -4,7 +4,7 @@ In: the bytes of a file. Out: the bytes of the copy, and the kinds of changes: n
 
 import re
 
-from tool.folder.elements import Field, Misread, Section, elements, printed, walk
+from tool.elements import Field, Misread, Section, elements, printed, walk
 
 READ = ("2.4", "3.0", "3.4")
 HEADER = re.compile(rb"(?i)(?<![^\n])[ \t]*cabal-version[ \t]*:[ \t]*(\S[^\n]*|\r?\n[ \t]+[^\n:]+|)")

@@ -8,7 +8,7 @@ import os
 import re
 
 from tool.folder import conditions
-from tool.folder.elements import Field, Misread, elements, walk
+from tool.elements import Field, Misread, elements, walk
 from tool.folder.older import decoded
 from tool.refusal import Refusal, read
 
