@@ -91,12 +91,13 @@ def parts_of(unit):
 
 
 def read(path):
-    """Returns the needed components and the flags of a `plan.json`."""
+    """Returns the needed components and the flags of a `plan.json`, and its object."""
     with open(path, encoding="utf-8") as file:
-        units = needed(json.load(file)["install-plan"])
+        form = json.load(file)
+    units = needed(form["install-plan"])
     components, flags = set(), {}
     for unit in units:
         key = unit["pkg-name"], unit["pkg-version"]
         components |= {(*key, it) for it in parts_of(unit)}
         flags.setdefault(key, {}).update(unit.get("flags", {}))
-    return components, flags
+    return components, flags, form

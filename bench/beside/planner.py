@@ -3,6 +3,7 @@
 import json
 
 from beside import plans
+from tool.plans.json import plan_json
 
 VERDICTS = {0: "plan", 1: "no plan", 2: "gave up", 3: "refused"}
 
@@ -13,11 +14,11 @@ def plan(program, folder, words):
     if status is None:
         return plans.Answer("no answer", seconds, told)
     verdict = VERDICTS.get(status, f"status {status}")
-    return plans.Answer(verdict, seconds, told, *(read(json.loads(told)) if verdict == "plan" else ()))
+    return plans.Answer(verdict, seconds, told, *(read(json.loads(told), words) if verdict == "plan" else ()))
 
 
-def read(answer):
-    """Returns the components and the flags of a plan."""
+def read(answer, words):
+    """Returns the components and the flags of a plan, and the plan in cabal's form."""
     components, flags = set(), {}
     for node in answer["nodes"]:
         name, _, version = node["package"].rpartition("-")
@@ -27,4 +28,4 @@ def read(answer):
         package, mark, flag = variable.rpartition(":")
         if mark and value[0] in ("on", "off") and not flag.startswith("*") and package in chosen:
             flags.setdefault((package.rpartition(".")[2], chosen[package][0]), {})[flag] = value[0] == "on"
-    return components, flags
+    return components, flags, plan_json(answer, words)[0]

@@ -9,10 +9,10 @@ SECONDS = 600
 
 class Answer:
     """A verdict (`plan`, `no plan`, `gave up`, `refused`), its seconds and the output; of a plan also its components
-    (package, version, component) and the flags of each package and version."""
+    (package, version, component), the flags of each package and version, and the plan in cabal's form."""
 
-    def __init__(self, verdict, seconds, told, components=frozenset(), flags=None):
-        self.verdict, self.seconds, self.told, self.components, self.flags = verdict, seconds, told, set(components), flags or {}
+    def __init__(self, verdict, seconds, told, components=frozenset(), flags=None, form=None):
+        self.verdict, self.seconds, self.told, self.components, self.flags, self.form = verdict, seconds, told, set(components), flags or {}, form
 
     def versions(self):
         return {it[:2] for it in self.components}
