@@ -20,6 +20,11 @@ SETTING = {"style": "dashed", "color": "steelblue", "fontcolor": "steelblue"}
 APART = "0.5"
 
 
+def apart(lines):
+    """Returns the label of an edge with free room at both sides, so that it isn't read on into another one."""
+    return "\n".join(f"  {it}  " for it in lines)
+
+
 def some(of, most):
     return of if len(of) <= most else [*of[: most - 1], f"and {len(of) - most + 1} more"]
 
@@ -38,7 +43,7 @@ def label(found):
         where = f" ({', '.join(ask.places)})" * bool(ask.places)
         what = f"executable {ask.executable}, {ask.range}" if ask.executable else ask.range
         lines.setdefault(f"{what}{where}", {})[ask.version] = None
-    return "\n".join(some([f"{', '.join(some(list(who), VERSIONS))}: {text}" for text, who in lines.items()], RANGES))
+    return apart(some([f"{', '.join(some(list(who), VERSIONS))}: {text}" for text, who in lines.items()], RANGES))
 
 
 class Picture:
@@ -107,7 +112,7 @@ class Picture:
         for file, name in files.items():
             yield dot.node(name, {"label": "\n".join([file, *some(eased.get(file, []), RANGES)]), "shape": "note", "style": "filled", "fillcolor": "white"})
         for (file, variable), lines in found.items():
-            yield dot.edge(files[file], self.ids[variable], {"label": "\n".join(some(lines, RANGES)), **SETTING})
+            yield dot.edge(files[file], self.ids[variable], {"label": apart(some(lines, RANGES)), **SETTING})
 
     def text(self):
         """Returns the DOT."""

@@ -69,12 +69,16 @@ def of_project(barred, settings):
     return found
 
 
+def is_on(text, names):
+    """Returns whether a relaxation is on bounds of or among these names: `dep`, `pkg:dep` or `pkg-1.2:dep`, or on all."""
+    parts = [re.sub(r"-[0-9.]+$", "", it.lstrip("^")) for it in text.split(":")]
+    return all(it in names or it.lower() in ("all", "true", "*") for it in parts)
+
+
 def relaxed(names, settings):
-    """Returns for each file its relaxations of bounds of or on these names."""
+    """Returns for each file its relaxations of bounds among these names."""
     found = {}
     for it in settings:
-        if it.field in ("allow-newer", "allow-older"):
-            of = {re.sub(r"-[0-9.]+$", "", word.lstrip("^")) for word in it.text.split(":")}
-            if of & names or of & {"all", "*"} or it.text.lower() == "true":
-                found.setdefault(it.file, []).append(f"line {it.line}: {it.field}: {it.text}")
+        if it.field in ("allow-newer", "allow-older") and is_on(it.text, names):
+            found.setdefault(it.file, []).append(f"line {it.line}: {it.field}: {it.text}")
     return found

@@ -107,11 +107,11 @@ def lay_out(room):
     return ranges.content(LOCAL) or ""
 
 
-def bounds(one, plan, at):
+def bounds(one, plan, at, texts):
     """Returns what may bar later versions of a package, among the names of its conflict: ranges of the chosen versions, and
     settings of the project."""
     names = {Variable(it).package for it in one.conflict} | {one.name}
-    folder = ranges.Folder(".", *at, names, plan["skipped"])
+    folder = ranges.Folder(".", *at, names, plan["skipped"], texts)
     versions = {(it["var"].rpartition(".")[2], it["value"].split()[0]) for it in plan["choices"] if " " in it["value"]}
     found = []
     for ask in (ask for owner in sorted(names) for ask in reversed(folder.asks[owner])):
@@ -126,7 +126,7 @@ def bounds(one, plan, at):
     return found
 
 
-def tell(one, plan, planner, room, text, at):
+def tell(one, plan, planner, room, text):
     """Plans again with a later version, and notes the answer."""
     room.remove(LOCAL)
     room.write(LOCAL, f"{text}\nconstraints: any.{one.name} >{one.version}\n")
@@ -139,7 +139,6 @@ def tell(one, plan, planner, room, text, at):
         one.changes = [it for it in found if it.kind != changes.REBUILT and Variable(it.name).package != one.name]
     elif one.answer == "no plan":
         one.conflict = answer.object["conflict"]
-        one.bounds = bounds(one, plan, at)
 
 
 def main(words):
@@ -154,9 +153,10 @@ def main(words):
             raise Refusal(f"the plan has no {shown(unknown[0])} that could be out of date")
         found = list(outdated(plan, at[0], of.names))
         with files.new_room("cabal-plan-") as room:
-            text = lay_out(room)
+            text, texts = lay_out(room), ranges.Texts()
             for one in found:
-                tell(one, plan, planner, room, text, at)
+                tell(one, plan, planner, room, text)
+                one.bounds = bounds(one, plan, at, texts) if one.conflict else []
                 for line in one.lines() if of.format == "text" else ():
                     print(escaped(line), flush=True)
         if of.format == "json":

@@ -4,7 +4,6 @@ In: a folder with its `index` and `installed`, and names of packages. Out: which
 range, and which settings of the project name them, each with its file and line. Dependencies count under all conditions.
 It reads files alone: which version is in a range, and what is chosen, is the program's task."""
 
-import functools
 import os
 import re
 import stat
@@ -63,14 +62,24 @@ def content(path):
     return data.decode("utf-8", "replace") if len(data) <= LARGEST else None
 
 
-@functools.lru_cache(maxsize=KEPT)
-def items_of(path):
-    """Returns the elements of a file, none of one that can't be read, and none at all if the program wouldn't read it."""
-    text = content(path)
-    try:
-        return elements(text)[0] if text is not None else None
-    except Misread:
-        return []
+class Texts:
+    """The files that were read, by their paths: each is read once, up to a number of files."""
+
+    def __init__(self):
+        self.kept = {}
+
+    def items(self, path):
+        """Returns the elements of a file: an empty list if it can't be read, or none if the program wouldn't read it."""
+        if path in self.kept:
+            return self.kept[path]
+        text = content(path)
+        try:
+            found = elements(text)[0] if text is not None else None
+        except Misread:
+            found = []
+        if len(self.kept) < KEPT:
+            self.kept[path] = found
+        return found
 
 
 def fields(items, places=()):
@@ -106,11 +115,11 @@ def asks(owner, version, items, names, path, is_local):
                 yield Ask(owner, version, field.name, found, [it for it in places if it != "library"], (path, line))
 
 
-def settings(folder):
+def settings(folder, texts):
     """Returns the entries of the project files that may bar something."""
     found = []
     for name in FILES:
-        for field, places in fields(items_of(f"{folder}/{name}") or []):
+        for field, places in fields(texts.items(f"{folder}/{name}") or []):
             if field.name in LISTS:
                 found += [Setting(field.name, text, places, name, line) for text, line in entries(field)]
             elif field.name in ("tests", "benchmarks") or field.name == "flags" and places and places[-1].startswith("package "):
@@ -122,8 +131,9 @@ class Folder:
     """The part of a folder on some names: the versions `there`, and the dependencies `asks` of each among them. Files that
     the program skipped have none. `is_whole` is whether all files of these names were read."""
 
-    def __init__(self, folder, index, installed, names, skipped):
-        self.folder, self.names, self.settings = folder, set(names), settings(folder)
+    def __init__(self, folder, index, installed, names, skipped, texts=None):
+        self.folder, self.names, self.texts = folder, set(names), texts or Texts()
+        self.settings = settings(folder, self.texts)
         self.there, self.asks, self.local, self.is_whole = {it: [] for it in names}, {it: [] for it in names}, set(), True
         self.skipped = {re.sub(r"(:\d+)? \w+( .*)?$", "", it) for it in skipped}
         self.add_local()
@@ -141,7 +151,7 @@ class Folder:
         except Refusal:
             paths = []
         for path in paths:
-            items = items_of(f"{self.folder}/{path}") or []
+            items = self.texts.items(f"{self.folder}/{path}") or []
             name = value(items, "name")
             if name in self.names:
                 self.local.add(name)
@@ -151,7 +161,7 @@ class Folder:
         """Adds the units of these names. A unit asks for the units that it needs."""
         found = []
         for file in listed(folder)[:MOST_RECORDS]:
-            items = (items_of(f"{folder}/{file}") if file.endswith(".conf") else None) or []
+            items = (self.texts.items(f"{folder}/{file}") if file.endswith(".conf") else None) or []
             if value(items, "name") in self.names - self.local:
                 found.append((file, items))
         known = {value(items, "id"): (value(items, "name"), value(items, "version")) for _, items in found}
@@ -168,7 +178,7 @@ class Folder:
         for name in sorted(it for it in self.names - self.local if is_name(it, "package")):
             for version in versions(f"{self.folder}/{index}", name):
                 path = f"{index}/{name}/{version}/{name}.cabal"
-                items = items_of(f"{self.folder}/{path}") if path not in self.skipped and left > 0 else None
+                items = self.texts.items(f"{self.folder}/{path}") if path not in self.skipped and left > 0 else None
                 if items is not None:
                     self.add(name, version, "source", items, path)
                 else:
