@@ -2,6 +2,8 @@
 ranges. Out: DOT with a node for each variable of the conflict, an edge for each range between two of them, and one for
 each setting of the project that bars values of one of them."""
 
+import re
+
 from tool.graph import dot
 from tool.graph.circles import circles
 from tool.graph.settings import Barred, of_project, relaxed
@@ -16,6 +18,8 @@ WITHOUT_FILES = "No plan: these cannot be chosen together. The folder's files sa
 TWIN = {"label": "one version is built once", "style": "dotted", "arrowhead": "none"}
 CIRCLE = {"color": "red", "penwidth": "2", "fontcolor": "red"}
 SETTING = {"style": "dashed", "color": "steelblue", "fontcolor": "steelblue"}
+# The names that are those of their nodes, too.
+PLAIN = re.compile(r"[\w:.*-]{1,200}", re.A)
 # The distance of labels in a row: at a smaller one they read as one.
 APART = "0.5"
 
@@ -53,7 +57,7 @@ class Picture:
         self.variables = list({it: Variable(it) for it in answer["conflict"]}.values())
         if len(self.variables) > MOST_NAMES:
             raise Refusal(f"a conflict of {len(self.variables)} names isn't drawn: `plan --minimize-conflict-set` leaves out what isn't needed")
-        self.ids = {it.text: f"v{number}" for number, it in enumerate(self.variables, 1)}
+        self.ids = {it.text: it.text if PLAIN.fullmatch(it.text) else f"#{number}" for number, it in enumerate(self.variables, 1)}
         self.folder = ranges.Folder(*at, {it.package for it in self.variables}, answer.get("skipped", []))
         self.tools = {}
 
@@ -108,11 +112,10 @@ class Picture:
     def settings(self):
         """Yields a node for each file of the project that bars something, with its edges."""
         found, eased = of_project(Barred(self.variables), self.folder.settings), relaxed(self.folder.names, self.folder.settings)
-        files = {file: f"f{number}" for number, file in enumerate(dict.fromkeys([*(file for file, _ in found), *eased]), 1)}
-        for file, name in files.items():
-            yield dot.node(name, {"label": "\n".join([file, *some(eased.get(file, []), RANGES)]), "shape": "note", "style": "filled", "fillcolor": "white"})
+        for file in dict.fromkeys([*(file for file, _ in found), *eased]):
+            yield dot.node(f"#{file}", {"label": "\n".join([file, *some(eased.get(file, []), RANGES)]), "shape": "note", "style": "filled", "fillcolor": "white"})
         for (file, variable), lines in found.items():
-            yield dot.edge(files[file], self.ids[variable], {"label": apart(some(lines, RANGES)), **SETTING})
+            yield dot.edge(f"#{file}", self.ids[variable], {"label": apart(some(lines, RANGES)), **SETTING})
 
     def text(self):
         """Returns the DOT."""

@@ -82,7 +82,7 @@ def found(graph, names):
         here = graph.named(name)
         if not here:
             near = difflib.get_close_matches(name, {it.name for it in graph.nodes}, 1, 0.6)
-            raise Refusal(f"the plan has no {shown(name)}" + f": did you mean {shown(near[0])}?" * bool(near))
+            raise Refusal(f"the plan has no {shown(name)}" + (f": did you mean {shown(near[0])}?" if near else ""))
         places += here
     return graph.sorted(set(places))
 
