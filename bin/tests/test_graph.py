@@ -73,12 +73,12 @@ class PlanPictures(Graphs):
         self.assertIn('"n1" -> "n2"', text)
 
     def test_large_plans(self):
-        begun = time.monotonic()
+        begun = time.process_time()
         needs = [list(range(max(0, at - 20), at)) for at in range(5_000)]
         self.assertEqual(4_999, len(edges(needs, range(5_000), False)))
         self.assertEqual(sum(map(len, needs)), len(edges(needs, range(5_000), True)))
         self.drawn(plan([node(f"a{it}", [f"a{it - 1}-1"]) for it in range(5_000)]))
-        self.assertLess(time.monotonic() - begun, 8)
+        self.assertLess(time.process_time() - begun, 8)
 
     def test_no_answer(self):
         for text in ('{"status": []}', '{"status": "no plan", "conflict": ["a"], "skipped": null}', "[" * 10_000, "{", '{"status": "plan", "nodes": {}}', '"x"'):
@@ -202,14 +202,14 @@ class ConflictPictures(Graphs):
         self.is_refused(self.called("graph", self.answer("x", conflict(*map(str, range(1_001))))), "a conflict of 1001 names isn't drawn")
 
     def test_many_constraints(self):
-        begun = time.monotonic()
+        begun = time.process_time()
         lines = ["packages: .", "constraints:", *(f"  a <{it}, b +fast, any.zz{it} ==1, {{" for it in range(25_000)), "  a"]
         self.write("src/project/cabal.project", "\n".join(lines))
         self.drawn(conflict("main", "a", "b", "b:fast"))
-        self.assertLess(time.monotonic() - begun, 8)
+        self.assertLess(time.process_time() - begun, 8)
 
     def test_many_dependencies(self):
-        begun = time.monotonic()
+        begun = time.process_time()
         self.package("b", "2", "library\n  build-depends: " + ",\n   ".join(f"a >{it}" for it in range(50_000)))
         self.assertIn("and 49998 more", self.drawn(conflict("main", "a", "b")))
-        self.assertLess(time.monotonic() - begun, 8)
+        self.assertLess(time.process_time() - begun, 8)

@@ -131,7 +131,7 @@ class TreeTests(Plans):
         self.assertEqual("a-1 (local)\n└── b-1\n    └── a-1 (local) (*)\n", self.called("tree", "--from", self.answer("x", plan(nodes)))[1])
 
     def test_deep_and_wide_plans(self):
-        begun = time.monotonic()
+        begun = time.process_time()
         deep = Graph(plan([node(f"a{it}", [f"a{it - 1}-1"], "local") for it in range(20_000)]))
         told = list(Tree(deep, deep.needs, range(20_000), 100).lines(19_999))
         self.assertEqual(101, len(told))
@@ -140,7 +140,7 @@ class TreeTests(Plans):
         wide = Graph(plan([*(node(f"b{it}", ["x"]) for it in range(1_000)), *(node(f"c{it}", names, "local") for it in range(100))]))
         tree = Tree(wide, wide.needs, range(1_100), 100)
         self.assertEqual(100 * 1_001, sum(len(list(tree.lines(at))) for at in wide.roots()))
-        self.assertLess(time.monotonic() - begun, 8)
+        self.assertLess(time.process_time() - begun, 8)
 
 
 class DiffTests(Plans):
@@ -208,11 +208,11 @@ class DiffTests(Plans):
             self.assertEqual(64, self.called("diff", *words)[0], words)
 
     def test_many_constraints(self):
-        begun = time.monotonic()
+        begun = time.process_time()
         found = changes.of_freeze("constraints: " + ",\n  ".join(f"any.a{it} ==1.{it}, any.a{it} +f -g" for it in range(30_000)), "x")
         self.assertEqual((30_000, 60_000), (len(found.versions), len(found.values)))
         self.assertEqual([], changes.changes(found, found))
-        self.assertLess(time.monotonic() - begun, 8)
+        self.assertLess(time.process_time() - begun, 8)
 
 
 class Revisions(Plans):
