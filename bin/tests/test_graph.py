@@ -121,7 +121,7 @@ class ConflictPictures(Graphs):
         where = f"{TOP}/examples/no-plan"
         out = subprocess.run([f"{TOP}/dist/cabal-plan", "plan", "--json", "--minimize-conflict-set"], cwd=where, stdout=subprocess.PIPE, check=False).stdout
         text = self.drawn(out, where=where)
-        self.assertEqual([["1: >=4 (executable app)"], ["3.0: any version", "4.0: >=3"]], self.labels(text))
+        self.assertEqual([["1: >=4 (executable app)"], ["4.0: >=3", "3.0: any version"]], self.labels(text))
         found = [it.strip() for label in self.labels(text) for it in label]
         svg = [it.replace("&gt;", ">").replace("&#160;", " ").strip() for it in re.findall(r"<text[^>]*>([^<]*)</text>", told)]
         for it in found:
@@ -129,26 +129,28 @@ class ConflictPictures(Graphs):
         self.assertEqual(sorted(re.findall(r"<title>(\w+)</title>", told)), sorted(["plan", *re.findall(r'^  "(\w+)" \[', text, re.M)]))
 
     def test_ranges_and_versions(self):
-        self.package("b", "2", "library\n  build-depends: a >1\n  if flag(x)\n    build-depends: a <9\n")
-        text = self.drawn(conflict("main", "a", "b"))
+        self.package("b", "2", "flag x\nlibrary\n  build-depends: a >1\n  if flag(x)\n    build-depends: a <9\n  if os(osx)\n    build-depends: a <7\n")
+        text = self.drawn(conflict("main", "a", "b", "b:x"))
         self.assertIn('"main" -> "a" [label="  1: any version  "]', text)
-        self.assertIn(["1: <2", "2: >1", "2: <9 (if flag(x))"], self.labels(text))
+        self.assertIn(["2: >1", "2: <9 (if flag(x))", "1: <2"], self.labels(text))
+        self.assertIn(["2: >1", "1: <2"], self.labels(self.drawn(conflict("main", "a", "b"))))
+        self.assertIn(["2: >1", "2: <7 (if os(osx))", "1: <2"], self.labels(self.drawn(conflict("main", "a", "b"), "--os=osx")))
         self.assertIn('label="a\\n2, 1"', text)
         self.assertIn('label="b\\n2, 1"', text)
 
     def test_constraints_with_their_files(self):
-        self.write("src/project/cabal.project", "packages: .\nconstraints: b +fast -slow,\n  a <2, any.b >=1, setup.a ==3, gone <1\nextra-packages: a ==1\n")
+        self.write("src/project/cabal.project", "packages: .\nconstraints: b +fast -slow,\n  a <2, any.b >=1, any.b >1, setup.a ==3, gone <1\nextra-packages: a ==1\n")
         self.write("src/project/cabal.project.local", "tests: True\nif os(linux)\n  constraints: a installed,\n    main test\npackage b\n  flags: +fast\nallow-newer: b:a, c:a\n")
         text = self.drawn(conflict("main", "a", "b", "b:fast", "main:*test"))
         told = self.labels(text)
         self.assertIn(["line 3: a <2", "line 4: extra-packages: a ==1"], told)
         self.assertIn(["line 2: b +fast"], told)
-        self.assertIn(["line 3: any.b >=1"], told)
-        self.assertIn(["line 3: a installed (if os(linux))"], told)
-        self.assertIn(["line 6: package b: flags: +fast"], told)
-        self.assertIn(["line 1: tests: True", "line 4: main test (if os(linux))"], told)
-        self.assertIn('label="cabal.project.local\\nline 7: allow-newer: b:a"', text)
-        for word in ("slow", "setup.a", "gone", "c:a"):
+        self.assertIn(["line 3: any.b >1"], told)
+        self.assertIn(["line 3: a installed"], told)
+        self.assertIn(["line 6: b +fast"], told)
+        self.assertIn(["line 1: tests: True", "line 4: main test"], told)
+        self.assertIn(["1: <2", "relaxed: allow-newer at cabal.project.local:7"], told)
+        for word in ("slow", "setup.a", "gone", "c:a", "any.b >=1"):
             self.assertNotIn(word, text)
         told = self.labels(self.drawn(conflict("main", "a")))
         self.assertNotIn("fast", str(told))
@@ -198,8 +200,8 @@ class ConflictPictures(Graphs):
         self.write("packages/a/not a version/a.cabal", "")
         text = self.drawn(conflict("main", "a", "b", "../main", "a/../b", "\x00", "x" * 50_000, 'q"'))
         self.assertIn('label="a\\n3, 2, 1"', text)
-        self.assertIn('label="b\\n3 skipped, 1"', text)
-        self.is_refused(self.called("graph", self.answer("x", conflict(*map(str, range(1_001))))), "a conflict of 1001 names isn't drawn")
+        self.assertIn('label="b\\n1"', text)
+        self.is_refused(self.called("graph", self.answer("x", conflict(*map(str, range(301))))), "a conflict of 301 names isn't drawn")
 
     def test_many_constraints(self):
         begun = time.process_time()

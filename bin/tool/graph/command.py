@@ -8,13 +8,15 @@ from tool.graph import conflict, plan
 from tool.plans import answers
 from tool.planner import Words
 from tool.refusal import Refusal, shown
+from tool.words import MEANINGS, OPTIONS
 
 TEXT = """It reads the answer from FILE or standard input, as in
 
     cabal-plan plan --json | cabal-plan graph --svg >plan.svg
 
 and prints DOT, or a picture with --svg, which needs Graphviz. The conflict is that of the answer; ranges, constraints,
-circles and missing executables in its picture are read off the files, whatever conditions they stand under."""
+circles and missing executables in its picture are read off the files."""
+PLACES = ("--index", "--installed", "--os", "--arch", "--compiler")
 
 
 def words_of(words):
@@ -27,8 +29,9 @@ def words_of(words):
     parser.add_argument("--no-installed", action="store_true", help="of a plan no installed units")
     parser.add_argument("--all-needs", action="store_true", help="of a plan also the edges that longer ways imply")
     parser.add_argument("--folder", metavar="PATH", default=".", help="of a conflict the folder that was planned: its files have the ranges")
-    parser.add_argument("--index", metavar="PATH", default="index", help="as it was given to `plan`, below that folder")
-    parser.add_argument("--installed", metavar="PATH", default="installed", help="as it was given to `plan`, below that folder")
+    group = parser.add_argument_group("the words that a conflict was planned with, as for `cabal-plan plan`")
+    for name in PLACES:
+        group.add_argument(name, metavar=OPTIONS["plan"][name], help=MEANINGS[name])
     return parser.parse_args(words)
 
 
@@ -51,7 +54,8 @@ def main(words):
     if answer["status"] == "plan":
         text = plan.picture(answer, plan.Part(of.why, of.needs, not of.no_installed, of.all_needs))
     else:
-        text = conflict.picture(answer, (of.folder, of.index, of.installed))
+        given = {it: getattr(of, it[2:]) for it in PLACES}
+        text = conflict.picture(answer, of.folder, [f"{name}={value}" for name, value in given.items() if value is not None])
     sys.stdout.buffer.write((svg_of(text) if of.svg else text).encode("utf-8", "backslashreplace"))
     sys.stdout.flush()
     return 0

@@ -8,16 +8,16 @@ import re
 
 from tool import files
 from tool.folder.index import by_number
-from tool.plans import answers, changes, ranges
-from tool.plans.revision import places
+from tool.plans import answers, changes
 from tool.plans.variables import Variable
 from tool.planner import GAVE_UP, NO_PLAN, PLAN, Planner, Words
 from tool.refusal import Refusal, escaped, shown
+from tool.why.facts import Facts, Folder
+from tool.why.ranges import admits
+from tool.why.texts import text_of
 
 WORD = "outdated"
 LOCAL = "cabal.project.local"
-# A range that may bar a later version.
-UPPER = re.compile(r"<|\^|(?<![<>])=|-none")
 MOST_NAMED = 6
 TEXT = """For each chosen version with a later one in the index, it plans again with `constraints: any.NAME >CHOSEN` added, in a
 folder of links to this one's files. It prints one of these:
@@ -40,7 +40,7 @@ class Outdated:
 
     def json(self):
         return {
-            "answer": self.answer, "bounds": [{"file": it.file, "line": it.line, "text": text} for it, text in self.bounds],
+            "answer": self.answer, "bounds": [{"file": file, "line": line, "text": text} for file, line, text in self.bounds],
             "changes": [it.json() for it in self.changes], "chosen": self.version, "conflict": self.conflict, "found": self.found or None,
             "latest": self.latest, "name": self.name, "skipped": self.skipped, "source": self.source,
         }  # fmt: skip
@@ -51,7 +51,7 @@ class Outdated:
         yield f"{self.name} {self.version}{' installed' * (self.source == 'installed')}, latest {self.latest}{later}"
         if self.answer == "no plan":
             yield f"    no plan has a later one: {' '.join(self.conflict)}"
-            yield from (f"    {it.file}:{it.line}: {text}" for it, text in self.bounds[:MOST_NAMED])
+            yield from (f"    {file}:{line}: {text}" for file, line, text in self.bounds[:MOST_NAMED])
             if len(self.bounds) > MOST_NAMED:
                 yield f"    and {len(self.bounds) - MOST_NAMED} more bounds, which --format=json lists"
         elif self.answer == "plan":
@@ -86,14 +86,15 @@ def chosen(plan):
     return {name: sorted(them, key=lambda it: by_number(it[0])) for name, them in found.items() if name not in local}
 
 
-def outdated(plan, index, names):
+def outdated(plan, folder, names):
     """Yields each package of which a later version is in the index than the lowest chosen one."""
     skipped = {re.sub(r"\.cabal(:\d+)? .*$", ".cabal", it) for it in plan["skipped"]}
     for name, them in sorted(chosen(plan).items()):
         version, source = them[0]
-        later = [it for it in ranges.versions(index, name) if by_number(it) > by_number(version)]
-        unread = [it for it in later if f"{index}/{name}/{it}/{name}.cabal" in skipped]
-        good = [it for it in later if it not in unread]
+        later = [it for it in reversed(folder.versions_of(name)) if by_number(it) > by_number(version)]
+        paths = {it: f"{folder.index}/{name}/{it}/{name}.cabal" for it in later}
+        unread = [it for it in later if paths[it] in skipped]
+        good = [it for it in later if it not in unread and os.path.isfile(paths[it])]
         if good and (not names or name in names):
             yield Outdated(name, version, source, good[-1], [it for it in unread if by_number(it) > by_number(good[-1])])
 
@@ -104,26 +105,27 @@ def lay_out(room):
     for name in os.listdir(here):
         if name != LOCAL:
             room.link(name, f"{here}/{name}")
-    return ranges.content(LOCAL) or ""
+    return text_of(LOCAL) or ""
 
 
-def bounds(one, plan, at, texts):
-    """Returns what may bar later versions of a package, among the names of its conflict: ranges of the chosen versions, and
-    settings of the project."""
-    names = {Variable(it).package for it in one.conflict} | {one.name}
-    folder = ranges.Folder(".", *at, names, plan["skipped"], texts)
-    versions = {(it["var"].rpartition(".")[2], it["value"].split()[0]) for it in plan["choices"] if " " in it["value"]}
-    found = []
-    for ask in (ask for owner in sorted(names) for ask in reversed(folder.asks[owner])):
-        version = ask.version.split()[0]
-        is_later = ask.owner == one.name and by_number(version) > by_number(one.version) and ask.range != ranges.FREE
-        if is_later or (ask.owner, version) in versions and UPPER.search(ask.range):
-            found.append((ask, f"{ask.owner} {ask.version} needs {ask.name} {ask.range}"))
-    for it in folder.settings:
-        named = re.match(r"(?:any\.|setup\.|[\w-]+:setup\.)?([\w-]+)", it.text)
-        if it.field in ("constraints", "extra-packages") and named and named[1] == one.name and UPPER.search(it.text):
-            found.append((it, f"{it.field}: {it.text}"))
-    return found
+def bounds(one, plan, folder):
+    """Returns what bars later versions of a package, among the names of its conflict: ranges of the chosen versions, what the
+    later versions ask of others, and constraints of the project."""
+    facts = Facts(folder, one.conflict, plan["skipped"])
+    is_later = lambda version: by_number(version) > by_number(one.version)
+    later = [it.version for it in facts.candidates.get(one.name, []) if not it.why_not and is_later(it.version)]
+    bars = lambda text: any(admits(text, it) is False for it in later)
+    chosen_ones = {(it["var"].rpartition(".")[2], it["value"].split()[0]) for it in plan["choices"] if " " in it["value"]}
+    found = {}
+    for _, _, version, ask in facts.asks:
+        is_own = version.package == one.name and ask.range and version.version in later
+        if is_own or ask.name == one.name and (version.package, version.version) in chosen_ones and bars(ask.range):
+            found[ask.file, ask.line, f"{version} needs {ask.text}"] = None
+    for name in facts.packages:
+        for it in [*facts.constraints(name), *facts.extras(name)] if name.package == one.name else ():
+            if it.range() and bars(it.range()) or it.rest == "installed":
+                found[it.file, it.line, f"constraints: {it.text}"] = None
+    return list(found)
 
 
 def tell(one, plan, planner, room, text):
@@ -145,18 +147,18 @@ def main(words):
     of = words_of(words)
 
     def body():
-        planner, at = Planner(of.program, of.planning), places(of.planning)
+        planner, folder = Planner(of.program, of.planning), Folder(".", of.planning)
         answers.say_notes(of.planning, WORD)
         plan = answers.planned(planner, ".")
         unknown = sorted(set(of.names) - chosen(plan).keys())
         if unknown:
             raise Refusal(f"the plan has no {shown(unknown[0])} that could be out of date")
-        found = list(outdated(plan, at[0], of.names))
+        found = list(outdated(plan, folder, of.names))
         with files.new_room("cabal-plan-") as room:
-            text, texts = lay_out(room), ranges.Texts()
+            text = lay_out(room)
             for one in found:
                 tell(one, plan, planner, room, text)
-                one.bounds = bounds(one, plan, at, texts) if one.conflict else []
+                one.bounds = bounds(one, plan, folder) if one.conflict else []
                 for line in one.lines() if of.format == "text" else ():
                     print(escaped(line), flush=True)
         if of.format == "json":
