@@ -112,12 +112,18 @@ def shown(page, at, run, lines):
         yield page.fails(at + wrong, f"the case {run.case.name} prints no such line here: {lines[wrong][:100]}")
 
 
-def piped(page, at, command, run):
-    """Yields the faults of a pipe from an output."""
-    if command.startswith("python3 "):
-        ended = subprocess.run(command, shell=True, input=run.output, stdout=subprocess.DEVNULL, stderr=subprocess.DEVNULL, check=False)
-        if ended.returncode:
-            yield page.fails(at, f"over this output '{command}' ends with status {ended.returncode}")
+def piped(page, at, command, shell, lines):
+    """Yields the faults of a pipe from an output, and of what is shown of the answer of a word of the tool."""
+    is_ours = os.path.normpath(f"{shell.folder}/{command.split(' ')[0]}") == "bin/cabal-plan"
+    if not command.startswith("python3 ") and not is_ours or ">" in command:
+        return
+    how = {"cwd": f"{TOP}/{shell.folder}" if is_ours else None, "input": shell.run.output, "stdout": subprocess.PIPE, "stderr": subprocess.DEVNULL}
+    ended = subprocess.run(command, shell=True, check=False, **how)
+    wrong = first_wrong(lines, ended.stdout.decode("utf-8", "replace")) if lines and is_ours else None
+    if ended.returncode:
+        yield page.fails(at, f"over this output '{command}' ends with status {ended.returncode}")
+    elif wrong is not None:
+        yield page.fails(at + 1 + min(wrong, len(lines) - 1), f"over this output '{command}' prints something else here")
 
 
 def step(page, shell, at, command, lines, known):
@@ -139,7 +145,7 @@ def step(page, shell, at, command, lines, known):
     if not shell.run:
         return [page.fails(at, why)]
     if call[4]:
-        return list(piped(page, at, call[4], shell.run))
+        return list(piped(page, at, call[4], shell, lines))
     return list(shown(page, at + 1, shell.run, lines))
 
 
