@@ -12,7 +12,8 @@ class Answer:
     (package, version, component), the flags of each package and version, and the plan in cabal's form."""
 
     def __init__(self, verdict, seconds, told, components=frozenset(), flags=None, form=None):
-        self.verdict, self.seconds, self.told, self.components, self.flags, self.form = verdict, seconds, told, set(components), flags or {}, form
+        self.verdict, self.seconds, self.told = verdict, seconds, told
+        self.components, self.flags, self.form = set(components), flags or {}, form
 
     def versions(self):
         return {it[:2] for it in self.components}

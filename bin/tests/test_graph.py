@@ -7,6 +7,7 @@ import shutil
 import subprocess
 import time
 import unittest
+from unittest import mock
 
 from tests.rooms import TOP
 from tests.test_plans import Plans, node, plan
@@ -15,6 +16,36 @@ from tool.graph.plan import edges
 
 QUOTED = re.compile(r'"((?:[^"\\]|\\.)*)"', re.S)
 LARGEST = 16_384
+CONDITIONS = """flag x
+library
+  build-depends: a >1
+  if flag(x)
+    build-depends: a <9
+  if os(osx)
+    build-depends: a <7
+"""
+PROJECT = """packages: .
+constraints: b +fast -slow,
+  a <2, any.b >=1, any.b >1, setup.a ==3, gone <1
+extra-packages: a ==1
+"""
+SETTINGS = """tests: True
+if os(linux)
+  constraints: a installed,
+    main test
+package b
+  flags: +fast
+allow-newer: b:a, c:a
+"""
+CUSTOM = """cabal-version: 2.4
+name: main
+version: 1
+build-type: Custom
+custom-setup
+  setup-depends: a >=2
+library
+  build-depends: a
+"""
 
 
 def conflict(*names, **more):
@@ -81,7 +112,8 @@ class PlanPictures(Graphs):
         self.assertLess(time.process_time() - begun, 8)
 
     def test_no_answer(self):
-        for text in ('{"status": []}', '{"status": "no plan", "conflict": ["a"], "skipped": null}', "[" * 10_000, "{", '{"status": "plan", "nodes": {}}', '"x"'):
+        null = '{"status": "no plan", "conflict": ["a"], "skipped": null}'
+        for text in ('{"status": []}', null, "[" * 10_000, "{", '{"status": "plan", "nodes": {}}', '"x"'):
             path = self.answer("bad", text)
             self.is_refused(self.called("graph", path), f"{path}:1: ")
         self.is_refused(self.called("graph", self.answer("bad", {"status": "gave up"})), "bad:1: the search gave up")
@@ -97,8 +129,8 @@ class PlanPictures(Graphs):
         self.assertTrue(ran.out.startswith("digraph plan {"))
         self.script("bin/dot", "#!/bin/sh\necho bad >&2\nexit 3\n")
         self.is_failure(self.run_script([f"{TOP}/bin/cabal-plan", "graph", "--svg", path]), "dot ended with status 3: bad")
-        ran = self.run_script([f"{TOP}/bin/cabal-plan", "graph", "--svg", path], environment=self.environment(PATH=f"{self.room}/empty:{os.path.dirname(shutil.which('python3'))}"))
-        self.assertIn(ran.returncode, (0, 70))
+        with mock.patch("shutil.which", lambda _: None):
+            self.is_refused(self.called("graph", "--svg", path), "dot isn't installed")
 
     @unittest.skipUnless(shutil.which("dot"), "Graphviz isn't installed")
     def test_dot_reads_long_labels(self):
@@ -119,7 +151,8 @@ class ConflictPictures(Graphs):
         with open(f"{TOP}/docs/pictures/conflict.svg", encoding="utf-8") as file:
             told = file.read()
         where = f"{TOP}/examples/no-plan"
-        out = subprocess.run([f"{TOP}/dist/cabal-plan", "plan", "--json", "--minimize-conflict-set"], cwd=where, stdout=subprocess.PIPE, check=False).stdout
+        words = [f"{TOP}/dist/cabal-plan", "plan", "--json", "--minimize-conflict-set"]
+        out = subprocess.run(words, cwd=where, stdout=subprocess.PIPE, check=False).stdout
         text = self.drawn(out, where=where)
         self.assertEqual([["1: >=4 (executable app)"], ["4.0: >=3", "3.0: any version"]], self.labels(text))
         found = [it.strip() for label in self.labels(text) for it in label]
@@ -129,7 +162,7 @@ class ConflictPictures(Graphs):
         self.assertEqual(sorted(re.findall(r"<title>(\w+)</title>", told)), sorted(["plan", *re.findall(r'^  "(\w+)" \[', text, re.M)]))
 
     def test_ranges_and_versions(self):
-        self.package("b", "2", "flag x\nlibrary\n  build-depends: a >1\n  if flag(x)\n    build-depends: a <9\n  if os(osx)\n    build-depends: a <7\n")
+        self.package("b", "2", CONDITIONS)
         text = self.drawn(conflict("main", "a", "b", "b:x"))
         self.assertIn('"main" -> "a" [label="  1: any version  "]', text)
         self.assertIn(["2: >1", "2: <9 (if flag(x))", "1: <2"], self.labels(text))
@@ -139,8 +172,8 @@ class ConflictPictures(Graphs):
         self.assertIn('label="b\\n2, 1"', text)
 
     def test_constraints_with_their_files(self):
-        self.write("src/project/cabal.project", "packages: .\nconstraints: b +fast -slow,\n  a <2, any.b >=1, any.b >1, setup.a ==3, gone <1\nextra-packages: a ==1\n")
-        self.write("src/project/cabal.project.local", "tests: True\nif os(linux)\n  constraints: a installed,\n    main test\npackage b\n  flags: +fast\nallow-newer: b:a, c:a\n")
+        self.write("src/project/cabal.project", PROJECT)
+        self.write("src/project/cabal.project.local", SETTINGS)
         text = self.drawn(conflict("main", "a", "b", "b:fast", "main:*test"))
         told = self.labels(text)
         self.assertIn(["line 3: a <2", "line 4: extra-packages: a ==1"], told)
@@ -179,7 +212,7 @@ class ConflictPictures(Graphs):
         self.assertIn('label="main:t:exe.t\\n2 (no executable t)\\n1"', text)
 
     def test_qualifiers(self):
-        self.write("src/project/main.cabal", "cabal-version: 2.4\nname: main\nversion: 1\nbuild-type: Custom\ncustom-setup\n  setup-depends: a >=2\nlibrary\n  build-depends: a\n")
+        self.write("src/project/main.cabal", CUSTOM)
         text = self.drawn(conflict("main", "a", "main:setup.a"))
         self.assertIn('"main" -> "main:setup.a" [label="  1: >=2 (custom-setup)  "]', text)
         self.assertIn('"a" -> "main:setup.a" [label="one version is built once"', text)

@@ -4,6 +4,7 @@ In: a folder and the words to plan with. Out: the program's answer, as the objec
 
 import argparse
 import json
+import os
 import subprocess
 
 from tool.ends import WRONG_WORDS, status_of_program
@@ -34,7 +35,9 @@ class Planner:
     """The program, and the words to plan with."""
 
     def __init__(self, program, words):
-        self.program, self.words = program or built_program(), list(words)
+        # (a path is one below the present folder, also where another one is planned)
+        self.program = os.path.abspath(program) if program and "/" in program else program or built_program()
+        self.words = list(words)
 
     def plan(self, folder, *further):
         """Plans a folder."""

@@ -39,7 +39,8 @@ def svg_of(text):
     """Returns the picture that dot makes, without the line with dot's version."""
     if not shutil.which("dot"):
         raise Refusal("dot isn't installed: install Graphviz, or leave out --svg and hand the DOT to another program")
-    ran = subprocess.run(["dot", "-Tsvg"], input=text.encode("utf-8", "backslashreplace"), stdout=subprocess.PIPE, stderr=subprocess.PIPE, check=False)
+    data = text.encode("utf-8", "backslashreplace")
+    ran = subprocess.run(["dot", "-Tsvg"], input=data, stdout=subprocess.PIPE, stderr=subprocess.PIPE, check=False)
     if ran.returncode:
         raise Refusal(f"dot ended with status {ran.returncode}: {shown(ran.stderr.decode(errors='replace').strip())}")
     lines = ran.stdout.decode("utf-8", "replace").split("\n")

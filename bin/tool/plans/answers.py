@@ -3,6 +3,7 @@
 In: the options of a word. Out: the object of a plan in the form that the manual describes, or one line with the status
 of another answer. A file is checked as a whole before anything is printed."""
 
+import gc
 import json
 import os
 import sys
@@ -10,7 +11,7 @@ import sys
 from tool.ends import say
 from tool.planner import PLAN, Planner
 from tool.refusal import Refusal, shown
-from tool.words import notes
+from tool.words import notes, wrong
 
 STATUSES = {"plan": 0, "no plan": 1, "gave up": 2}
 MOST_BYTES = 1 << 24
@@ -29,8 +30,15 @@ class NoPlan(Exception):
 
 def add_source(parser):
     """Adds the options that say where a plan is from."""
-    parser.add_argument("--from", dest="source", metavar="FILE", help="the answer of `plan --json` in a file, or `-` for standard input; else it is planned now")
+    parser.add_argument("--from", dest="source", metavar="FILE", help="the answer of `plan --json`, `-` for standard input; else it is planned now")
     parser.add_planning()
+
+
+def checked(parser, of):
+    """Returns the options, and ends the tool if the words to plan with have no reading."""
+    for _, text in wrong(["plan", *of.planning]):
+        parser.error(text)
+    return of
 
 
 def data_of(path):
@@ -64,14 +72,17 @@ def number(text):
 def object_of(data, path):
     """Returns the object of an answer in these bytes, with its status and form checked."""
     try:
-        found = json.loads(data, parse_int=number, parse_float=float)
+        # (a search for garbage among millions of new lists takes most of the time)
+        gc.disable()
+        found = json.loads(data, parse_int=number)
     except RecursionError as error:
         raise Refusal(f"{name_of(path)}:1: it is nested too deeply: {IS_NONE}") from error
     except ValueError as error:
         raise Refusal(f"{name_of(path)}:{getattr(error, 'lineno', 1)}: this is no JSON: is it what `cabal-plan plan --json` prints?") from error
-    wrong = fault(found)
-    if wrong:
-        raise Refusal(f"{name_of(path)}:1: {wrong}: {IS_NONE}")
+    finally:
+        gc.enable()
+    if why := fault(found):
+        raise Refusal(f"{name_of(path)}:1: {why}: {IS_NONE}")
     return found
 
 
@@ -80,7 +91,9 @@ def is_texts(found):
 
 
 def is_choices(found):
-    return isinstance(found, list) and all(isinstance(it, dict) and isinstance(it.get("var"), str) and isinstance(it.get("value"), str) for it in found)
+    if not isinstance(found, list) or not all(isinstance(it, dict) for it in found):
+        return False
+    return all(isinstance(it.get(key), str) for it in found for key in ("var", "value"))
 
 
 def is_node(it):
@@ -99,8 +112,8 @@ def fault(found):
         forms.update(choices=is_choices, nodes=lambda it: isinstance(it, list) and all(map(is_node, it)))
     if status == "no plan":
         forms["conflict"] = is_texts
-    wrong = [key for key, is_good in forms.items() if not is_good(found.get(key, [] if key in ("skipped", "warnings") else None))]
-    return f"its {wrong[0]} have another form" if wrong else ""
+    bad = [key for key, is_good in forms.items() if not is_good(found.get(key, [] if key in ("skipped", "warnings") else None))]
+    return f"its {bad[0]} has another form" if bad else ""
 
 
 def read(path):

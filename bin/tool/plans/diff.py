@@ -31,7 +31,7 @@ def words_of(words):
     parser.add_argument("--git", metavar="REV", help="in place of OLD: the plan of the project's files in this commit")
     parser.add_argument("--format", choices=("text", "json"), default="text", help="lines, or one JSON object; else text")
     parser.add_planning()
-    of = parser.parse_args(words)
+    of = answers.checked(parser, parser.parse_args(words))
     if (of.old is None) == (of.git is None) or of.git is not None and of.new is not None:
         parser.error("it takes OLD, OLD and NEW, or --git=REV")
     if of.old == of.new == "-":

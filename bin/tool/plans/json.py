@@ -29,7 +29,7 @@ The status is 0. Where there is no plan it is that of the program, whose answer 
 def words_of(words):
     parser = Words(WORD, description=TEXT)
     answers.add_source(parser)
-    return parser.parse_args(words)
+    return answers.checked(parser, parser.parse_args(words))
 
 
 class Choices:

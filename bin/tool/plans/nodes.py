@@ -15,7 +15,8 @@ class Node:
     """A component: its package and version, component, identifier and kind, and whether it can't be built."""
 
     def __init__(self, of):
-        self.package, self.component, self.id, self.kind, self.is_unbuildable = of["package"], of["component"], of["id"], of["kind"], of["unbuildable"]
+        self.package, self.component, self.id, self.kind = of["package"], of["component"], of["id"], of["kind"]
+        self.is_unbuildable = of["unbuildable"]
         self.name, _, self.version = self.package.rpartition("-")
 
     def plain(self):

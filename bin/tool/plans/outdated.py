@@ -72,7 +72,7 @@ def words_of(words):
     parser.add_argument("names", metavar="NAME", nargs="*", help="only these packages")
     parser.add_argument("--format", choices=("text", "json"), default="text", help="lines, or one JSON object; else text")
     parser.add_planning()
-    return parser.parse_args(words)
+    return answers.checked(parser, parser.parse_args(words))
 
 
 def chosen(plan):
@@ -108,22 +108,26 @@ def lay_out(room):
     return text_of(LOCAL) or ""
 
 
+def bars(text, versions):
+    """Returns whether a range bars one of these versions."""
+    return any(admits(text, it) is False for it in versions)
+
+
 def bounds(one, plan, folder):
     """Returns what bars later versions of a package, among the names of its conflict: ranges of the chosen versions, what the
     later versions ask of others, and constraints of the project."""
     facts = Facts(folder, one.conflict, plan["skipped"])
-    is_later = lambda version: by_number(version) > by_number(one.version)
-    later = [it.version for it in facts.candidates.get(one.name, []) if not it.why_not and is_later(it.version)]
-    bars = lambda text: any(admits(text, it) is False for it in later)
-    chosen_ones = {(it["var"].rpartition(".")[2], it["value"].split()[0]) for it in plan["choices"] if " " in it["value"]}
+    ones = [it.version for it in facts.candidates.get(one.name, []) if not it.why_not]
+    later = [it for it in ones if by_number(it) > by_number(one.version)]
+    versions = {(Variable(it["var"]).package, it["value"].split()[0]) for it in plan["choices"] if " " in it["value"]}
     found = {}
     for _, _, version, ask in facts.asks:
         is_own = version.package == one.name and ask.range and version.version in later
-        if is_own or ask.name == one.name and (version.package, version.version) in chosen_ones and bars(ask.range):
+        if is_own or ask.name == one.name and (version.package, version.version) in versions and bars(ask.range, later):
             found[ask.file, ask.line, f"{version} needs {ask.text}"] = None
     for name in facts.packages:
         for it in [*facts.constraints(name), *facts.extras(name)] if name.package == one.name else ():
-            if it.range() and bars(it.range()) or it.rest == "installed":
+            if it.range() and bars(it.range(), later) or it.rest == "installed":
                 found[it.file, it.line, f"constraints: {it.text}"] = None
     return list(found)
 

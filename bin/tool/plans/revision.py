@@ -75,8 +75,10 @@ def found(commit, folders, revision):
     for path in left[:20]:
         say(NAME, f"{shown(path)} of {shown(revision)} is a link or a module, and isn't read")
     large = next((it for it in kept if it.size > LARGEST), None)
-    if large or len(kept) > MOST_FILES or sum(it.size for it in kept) > MOST_BYTES:
-        raise Refusal(f"{shown(large.path)} of {shown(revision)} is too large" if large else f"{shown(revision)} has more files than the planner reads")
+    if large:
+        raise Refusal(f"{shown(large.path)} of {shown(revision)} has more than {LARGEST} bytes")
+    if len(kept) > MOST_FILES or sum(it.size for it in kept) > MOST_BYTES:
+        raise Refusal(f"{shown(revision)} has more files than the planner reads")
     return kept
 
 

@@ -39,7 +39,7 @@ def words_of(words):
     parser.add_argument("--duplicates", action="store_true", help="only packages with several versions or builds, inverted")
     parser.add_argument("--no-installed", action="store_true", help="leave installed units out")
     answers.add_source(parser)
-    return parser.parse_args(words)
+    return answers.checked(parser, parser.parse_args(words))
 
 
 class Tree:
