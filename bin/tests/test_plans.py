@@ -3,9 +3,11 @@
 import io
 import json
 import os
+import shutil
 import subprocess
 import sys
 import time
+import unittest
 from unittest import mock
 
 from tests.rooms import TOP, Room, listing
@@ -239,6 +241,7 @@ class DiffTests(Plans):
         self.assertLess(time.process_time() - begun, 8)
 
 
+@unittest.skipUnless(shutil.which("git"), "git isn't installed")
 class Revisions(Plans):
     """A project below the top of a repository."""
 

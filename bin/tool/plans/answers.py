@@ -47,6 +47,8 @@ def data_of(path):
         if path == "-":
             if sys.stdin is None:
                 raise Refusal("standard input is closed")
+            if sys.stdin.isatty():
+                say("cabal-plan", "reads what `plan --json` prints from standard input")
             data = sys.stdin.buffer.read(MOST_BYTES + 1)
         else:
             with open(path, "rb") as file:
