@@ -113,6 +113,9 @@ class TreeTests(Plans):
         self.assertEqual("t-1 exe:t\n└── a-2\n", self.called("tree", "t", "--no-installed", *WORDS)[1])
         out = self.called("tree", "--duplicates", *WORDS)[1]
         self.assertEqual(["a-1", "a-2"], [it for it in out.split("\n") if it.startswith("a-")])
+        os.remove(f"{self.room}/packages/a/1/a.cabal")
+        self.write("packages/b/1/b.cabal", B.format("1", ""))
+        self.assertEqual((0, "", "cabal-plan tree: there is nothing to show\n"), self.called("tree", "--duplicates", *WORDS))
         self.is_refused(self.called("tree", "bb", *WORDS), "the plan has no bb", "did you mean b?")
         self.assertEqual(64, self.called("tree", "--depth", "-1")[0])
         for words in ("tree --dept 1", "tree --index=../x", "outdated --os=a.b", "json --compiler=ghc", "diff x --index=/"):
@@ -351,7 +354,8 @@ class OutdatedTests(Plans):
 
     def test_nothing_is_outdated(self):
         self.write("packages/b/1/b.cabal", B.format("1", ""))
-        self.assertEqual((0, "", ""), self.called("outdated", *WORDS))
+        self.assertEqual((0, "", "cabal-plan outdated: no later version is in the index\n"), self.called("outdated", *WORDS))
+        self.assertEqual((0, '{"outdated":[]}\n'), self.called("outdated", "--format=json", *WORDS)[:2])
 
 
 class JsonTests(Plans):

@@ -7,6 +7,7 @@ import os
 import re
 
 from tool import files
+from tool.ends import say
 from tool.folder.index import by_number
 from tool.plans import answers, changes
 from tool.plans.variables import Variable
@@ -158,6 +159,8 @@ def main(words):
         if unknown:
             raise Refusal(f"the plan has no {shown(unknown[0])} that could be out of date")
         found = list(outdated(plan, folder, of.names))
+        if not found:
+            say(f"cabal-plan {WORD}", "no later version is in the index")
         with files.new_room("cabal-plan-") as room:
             text = lay_out(room)
             for one in found:

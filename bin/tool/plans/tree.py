@@ -4,6 +4,7 @@ import argparse
 import difflib
 import sys
 
+from tool.ends import say
 from tool.plans import answers
 from tool.plans.nodes import Graph
 from tool.planner import Words
@@ -116,6 +117,8 @@ def main(words):
             is_first = False
             for line in lines:
                 print(line)
+        if is_first:
+            say(f"cabal-plan {WORD}", "there is nothing to show")
         return 0
 
     return answers.run(WORD, body)
