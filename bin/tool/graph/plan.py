@@ -3,7 +3,7 @@ all its needs, and the nodes of one level can be built at the same time."""
 
 from tool.graph import dot
 from tool.plans.nodes import Graph
-from tool.plans.tree import found
+from tool.plans.tree import places_of
 from tool.refusal import Refusal
 
 LOOKS = {
@@ -27,9 +27,9 @@ class Part:
         """Returns the places of the nodes to draw, in build order."""
         kept = set(range(len(graph.nodes)))
         if self.why:
-            kept &= graph.reach(found(graph, [self.why]), graph.users)
+            kept &= graph.reach(places_of(graph, [self.why]), graph.users)
         if self.needs:
-            kept &= graph.reach(found(graph, [self.needs]), graph.needs)
+            kept &= graph.reach(places_of(graph, [self.needs]), graph.needs)
         if not self.has_installed:
             kept = {at for at in kept if graph.nodes[at].kind != "installed"}
         if len(kept) > MOST_NODES:

@@ -51,7 +51,7 @@ class File:
         self.path, self.key, self.size = path, key, size
 
 
-def places(planning):
+def folders_of(planning):
     """Returns the paths of `index` and `installed` in the words to plan with."""
     given = dict(it.partition("=")[::2] for it in planning)
     return [given.get("--index", "index"), given.get("--installed", "installed")]
@@ -62,7 +62,7 @@ def is_read(path, folders):
     return path in FILES or path.endswith(".cabal") or any(path == it or path.startswith(f"{it}/") for it in folders)
 
 
-def found(commit, folders, revision):
+def files_of(commit, folders, revision):
     """Returns the files of a commit that the planner may read, below the project's folder."""
     prefix = os.fsdecode(git("rev-parse", "--show-prefix")).rstrip("\n")
     listed, kept, left = git("ls-tree", "-r", "-l", "-z", "--full-tree", f"{commit}:{prefix}"), [], []
@@ -105,8 +105,8 @@ def write_unknown(room, kept):
 
 def planned_at(revision, planner, planning):
     """Returns the plan of the project's files in a commit. Folders that the commit lacks are the present ones."""
-    commit, folders = commit_of(revision), places(planning)
-    kept = found(commit, folders, revision)
+    commit, folders = commit_of(revision), folders_of(planning)
+    kept = files_of(commit, folders, revision)
     with files.new_room("cabal-plan-") as room:
         write(room, kept)
         write_unknown(room, kept)

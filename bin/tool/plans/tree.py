@@ -13,6 +13,8 @@ from tool.refusal import Refusal, shown
 WORD = "tree"
 # Below this depth a branch ends with `..`: else the lines of a chain grow with the square of its length.
 DEEPEST = 100
+# The names that are compared with a misspelt one are shorter.
+LONGEST = 60
 KINDS = {"installed": " (installed)", "local": " (local)"}
 MARKS = {True: ("├── ", "└── ", "│   ", "    "), False: ("|-- ", "`-- ", "|   ", "    ")}
 TEXT = """The roots are the local components, and the packages of `extra-packages`. `(*)` stands behind a component whose
@@ -76,32 +78,36 @@ class Tree:
                     rest.append((it, indent + (last if is_last else branch), indent + (free if is_last else through), level + 1))
 
 
-def found(graph, names):
+def places_of(graph, names):
     """Returns the places of the nodes of these names. Each has one."""
     places = []
     for name in names:
         here = graph.named(name)
         if not here:
-            near = difflib.get_close_matches(name, {it.name for it in graph.nodes}, 1, 0.6)
+            near = difflib.get_close_matches(name, {it.name for it in graph.nodes if len(it.name) < LONGEST}, 1, 0.6) if len(name) < LONGEST else []
             raise Refusal(f"the plan has no {shown(name)}" + (f": did you mean {shown(near[0])}?" if near else ""))
         places += here
     return graph.sorted(set(places))
 
 
+def roots_of(graph, of, kept):
+    """Returns the places where trees begin."""
+    if of.invert:
+        found = places_of(graph, of.invert)
+    else:
+        found = kept if of.duplicates else places_of(graph, of.names) if of.names else graph.roots()
+    found = [at for at in found if at in kept]
+    return graph.sorted(graph.duplicates(found)) if of.duplicates else found
+
+
 def trees(graph, of):
     """Yields the lines of each tree."""
-    kept = graph.reach(found(graph, of.names), graph.needs) if of.names else set(range(len(graph.nodes)))
+    kept = graph.reach(places_of(graph, of.names), graph.needs) if of.names else set(range(len(graph.nodes)))
     if of.no_installed:
         kept = {at for at in kept if graph.nodes[at].kind != "installed"}
-    is_back = of.duplicates or of.invert
-    roots = found(graph, of.invert) if of.invert else kept if of.duplicates else found(graph, of.names) if of.names else graph.roots()
-    roots = [at for at in roots if at in kept]
-    if of.duplicates:
-        roots = graph.sorted(graph.duplicates(roots))
-    if of.invert and not roots:
-        raise Refusal("nothing of these names is needed there")
-    tree = Tree(graph, graph.users if is_back else graph.needs, kept, DEEPEST if of.depth is None else of.depth)
-    for root in roots:
+    follow = graph.users if of.duplicates or of.invert else graph.needs
+    tree = Tree(graph, follow, kept, DEEPEST if of.depth is None else of.depth)
+    for root in roots_of(graph, of, kept):
         yield tree.lines(root)
 
 
