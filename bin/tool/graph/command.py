@@ -15,7 +15,7 @@ TEXT = """It reads the answer from FILE or standard input, as in
     cabal-plan plan --json | cabal-plan graph --svg >plan.svg
 
 and prints DOT, or a picture with --svg, which needs Graphviz. The conflict is that of the answer; ranges, constraints,
-circles and missing executables in its picture are read off the files."""
+circles and missing executables in its picture are read off the files. The status is 0 where it has drawn, else 70."""
 PLACES = ("--index", "--installed", "--os", "--arch", "--compiler")
 
 
