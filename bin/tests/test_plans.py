@@ -427,6 +427,8 @@ class Units(Room):
 class Refusals(Plans):
     def test_a_program_that_is_missing_or_fails(self):
         self.is_refused(self.called("tree", "--program=/nowhere", WORDS[1]), "/nowhere can't be run")
+        other = self.script("other", "#!/bin/sh\necho '{}'\n")
+        self.is_refused(self.called("tree", f"--program={other}", WORDS[1]), "the program prints something else: it has no status")
         self.is_refused(self.called("tree", f"--program={self.script('fails', '#!/bin/sh' + chr(10) + 'exit 6')}", WORDS[1]), "status 6", status=6)
 
     def test_a_refusal_is_one_line(self):

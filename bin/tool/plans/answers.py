@@ -9,7 +9,7 @@ import os
 import sys
 
 from tool.ends import say
-from tool.planner import PLAN, Planner
+from tool.planner import Planner
 from tool.refusal import Refusal, shown
 from tool.words import notes, wrong
 
@@ -140,7 +140,9 @@ def plan_of(found):
 def planned(planner, folder, *further):
     """Returns the object of the plan of a folder. Where there is none, an error has the program's answer and status."""
     answer = planner.plan(folder, *further)
-    if answer.status in (PLAN, *STATUSES.values()):
+    if answer.status in STATUSES.values():
+        if why := fault(answer.object):
+            raise Refusal(f"the program prints something else: {why}")
         return plan_of(answer.object)
     raise NoPlan(shown((answer.output or answer.error).strip()) or f"the program ended with status {answer.status}", answer.status)
 
