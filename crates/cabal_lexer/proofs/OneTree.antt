@@ -157,12 +157,20 @@ one_refusal bytes n m c d (inl h) (inr k) = absurd (h.0 k.0)
 one_refusal bytes n m c d (inr h) (inl k) = absurd (k.0 h.0)
 one_refusal bytes n m c d (inr h) (inr k) = one_fault h.1 k.1
 
-pub At-refused : {bytes : List ℕ} {lines : List Line} (f : Fault) → lines ≡ kept_lines bytes → IsUtf8 bytes → At (Fails 0 1 false lines) f → RefusesAt (IsFault bytes) f
-At-refused faults.NoMemory e u h = tt
-At-refused {bytes} (faults.At number cause) e u h =
-    inr (u, subst (λ n. FirstFault (kept_lines bytes) n cause) (sym h.1) (first_fault (subst (λ v. Fails 0 1 false v h.0 cause) e h.2)))
+pub At-first : (lines : List Line) (f : Fault) → At (Fails 0 1 false lines) f → RefusesAt (FirstFault lines) f
+At-first lines faults.NoMemory h = tt
+At-first lines (faults.At number cause) h = subst (λ n. FirstFault lines n cause) (sym h.1) (first_fault h.2)
+
+first-refused : (bytes : List ℕ) (lines : List Line) (f : Fault) → lines ≡ kept_lines bytes → IsUtf8 bytes → RefusesAt (FirstFault lines) f → RefusesAt (IsFault bytes) f
+first-refused bytes lines faults.NoMemory e u h = tt
+first-refused bytes lines (faults.At number cause) e u h = inr (u, subst (λ v. FirstFault v number cause) e h)
 
 -- ---- for a result
+
+pub fault-of_lines : (bytes : List ℕ) (lines : List Line) (r : Result (List Element) Fault) → lines ≡ kept_lines bytes → IsUtf8 bytes →
+    IfErr r (RefusesAt (FirstFault lines)) → IfErr r (RefusesAt (IsFault bytes))
+fault-of_lines bytes lines (Ok items) e u h = tt
+fault-of_lines bytes lines (Err f) e u h = first-refused bytes lines f e u h
 
 pub tree_found : (bytes : List ℕ) (r : Result (List Element) Fault) → IfOk r (λ items. IsTree bytes items) → IfErr r (RefusesAt (IsFault bytes)) →
     (items : List Element) → IsTree bytes items → MatchResult r (λ found. found ≡ items) (RefusesAt (λ _ _. ⊥))

@@ -14,6 +14,7 @@ mod print;
 mod read;
 
 pub use laws::{one_fault, one_tree, round_trip, tree_or_fault};
-pub use lines::trim;
+pub use lines::{Line, is_comment, is_lone, kept_lines, trim, trim_end, trim_start};
+pub use opening::name_len;
 pub use print::print_elements;
-pub use read::{as_text, elements_of, into_text, read_elements};
+pub use read::{as_text, elements_of, into_text, items_of, read_elements};

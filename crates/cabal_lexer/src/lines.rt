@@ -31,6 +31,19 @@ impl<'a> Model for Line<'a> {
 }
 
 impl<'a> Line<'a> {
+    /// A line with this number, this indent and this text.
+    pub fn new(number: u32, indent: u32, text: &'a str) -> Line<'a>
+        ensures number { result.number ≡ number }
+        ensures indent { result.indent ≡ indent }
+        ensures text { result.text ≡ text.now }
+    {
+        Line {
+            number,
+            indent: indent as usize,
+            text,
+        }
+    }
+
     pub fn number(&self) -> u32
         ensures { result ≡ self.now.number }
     {
@@ -121,8 +134,9 @@ pub fn trim(text: &str) -> &str
     trim_end(trim_start(text))
 }
 
+/// Whether a line is a comment: it begins with `--`.
 #[tactic(auto, unfolding(crate::specs::Lines::is_comment))]
-fn is_comment(text: &[u8]) -> bool
+pub fn is_comment(text: &[u8]) -> bool
     ensures { result ≡ is_comment text.now }
 {
     2 <= text.len() && text[0] == b'-' && text[1] == b'-'

@@ -56,8 +56,9 @@ fn is_name_byte(byte: u8) -> bool
     byte.is_ascii_alphanumeric() || byte == b'-' || byte == b'_' || byte == b'.'
 }
 
+/// The length of the name at the start of a text.
 #[tactic(auto, unfolding(crate::specs::Opening::name_len))]
-fn name_len(text: &[u8]) -> usize
+pub fn name_len(text: &[u8]) -> usize
     ensures { result ≡ name_len text.now }
 {
     text.iter().take_while(|byte| is_name_byte(**byte)).count()

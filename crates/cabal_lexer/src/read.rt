@@ -3,11 +3,11 @@ ghost use Rattle.std.specs.Prelude.{◌≡◌, ◌+◌, ◌≤◌, ◌<◌, ◌=
 ghost use Rattle.std.specs.Str.Lossy.{utf8_valid_len};
 ghost use Rattle.plan_types.specs.declared.element.Element.{Element};
 ghost use Rattle.plan_types.specs.declared.refusal.Cause.{Cause};
-ghost use Rattle.cabal_lexer.specs.Fault.{IsTree, IsFault, bad_line};
+ghost use Rattle.cabal_lexer.specs.Fault.{StandsFor, FirstFault, IsTree, IsFault, bad_line};
 ghost use Rattle.plan_types.specs.Refusal.{RefusesAt};
 
 use crate::elements::read_items;
-use crate::lines::kept_lines;
+use crate::lines::{Line, kept_lines};
 use plan_types::{Cause, Element, Fault, List, Text};
 use std::alloc::Global;
 use std::str;
@@ -46,7 +46,15 @@ pub fn elements_of(alloc: Global, text: &str) -> Result<List<Element>, Fault>
     ensures fault { IfErr result (RefusesAt (IsFault text.now)) }
 {
     let lines = kept_lines(alloc, text)?;
-    let (items, _) = read_items(alloc, lines.as_slice(), 0, 1, false)?;
+    items_of(alloc, lines.as_slice())
+}
+
+/// The tree of lines, or their first fault.
+pub fn items_of(alloc: Global, lines: &[Line]) -> Result<List<Element>, Fault>
+    ensures tree { IfOk result (λ items. StandsFor lines.now items) }
+    ensures fault { IfErr result (RefusesAt (FirstFault lines.now)) }
+{
+    let (items, _) = read_items(alloc, lines, 0, 1, false)?;
     Ok(items)
 }
 
