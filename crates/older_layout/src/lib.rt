@@ -1,0 +1,4 @@
+//! The older layout of Cabal files.
+#![tactic(auto)]
+
+mod cut;
