@@ -21,6 +21,7 @@ pub enum Kind {
 }
 
 /// A piece of a line, and the text after it. The brace of a raised piece is on the next line.
+#[derive(Drop)]
 pub struct Piece<'a> {
     kind: Kind,
     text: &'a str,

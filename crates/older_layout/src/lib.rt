@@ -2,3 +2,5 @@
 #![tactic(auto)]
 
 mod cut;
+mod relaid;
+mod state;

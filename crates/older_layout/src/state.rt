@@ -1,0 +1,148 @@
+// The state between two pieces.
+ghost use Rattle.std.specs.Prelude.{◌≡◌, false, true};
+ghost use Rattle.plan_types.specs.Bytes.{begins_with};
+ghost use Rattle.older_layout.specs.Cuts.{is_field, value};
+ghost use Rattle.older_layout.specs.States.{opened, mode_after, after, goes_on, begun, in_layout, in_values, start, begins_layout, layout_field};
+
+use crate::cut::{Kind, Piece, after, has_value, is_field, value};
+use cabal_lexer::Line;
+use text_grammar::begins_with;
+
+/// What the next line is.
+#[derive(Clone, Copy)]
+pub enum Mode {
+    /// It begins an item.
+    Items,
+    /// It is a value of a field, if it is deeper than this indent.
+    Layout { indent: usize },
+    /// It is between the braces of a field.
+    Values,
+}
+
+/// The number of open braces, what the next line is, and whether its first brace is the end of the last piece.
+#[derive(Clone, Copy)]
+pub struct State {
+    braces: u32,
+    mode: Mode,
+    raised: bool,
+}
+
+impl State {
+    /// The state at the start of a file.
+    pub fn start() -> State
+        ensures { result ≡ start }
+    {
+        State {
+            braces: 0,
+            mode: Mode::Items,
+            raised: false,
+        }
+    }
+
+    /// Whether a line is a further value of a field in layout.
+    #[tactic(auto, unfolding(crate::specs::States::goes_on))]
+    pub fn goes_on(&self, line: &Line) -> bool
+        ensures { result ≡ goes_on self.now line.now }
+    {
+        match self.mode {
+            Mode::Layout { indent } => indent < line.indent() && !(0 < self.braces && line.closes()),
+            Mode::Items => false,
+            Mode::Values => false,
+        }
+    }
+
+    /// Whether a line begins a field in layout.
+    #[tactic(auto, unfolding(crate::specs::States::begins_layout))]
+    pub fn begins_layout(&self, text: &str, opens: bool) -> bool
+        ensures { result ≡ begins_layout self.now text.now opens }
+    {
+        !self.raised && !self.in_values() && layout_field(text, opens)
+    }
+
+    /// The state in a field in layout.
+    pub fn in_layout(&self, indent: usize) -> State
+        ensures { result ≡ in_layout self.now indent }
+    {
+        State {
+            braces: self.braces,
+            mode: Mode::Layout { indent },
+            raised: false,
+        }
+    }
+
+    /// The state at the first piece of a line that isn't a value of a field in layout.
+    #[tactic(auto, unfolding(crate::specs::States::begun))]
+    pub fn begun(&self) -> State
+        ensures { result ≡ begun self.now }
+    {
+        State {
+            braces: self.braces,
+            mode: if self.in_values() { Mode::Values } else { Mode::Items },
+            raised: false,
+        }
+    }
+
+    /// Whether the next piece is between the braces of a field.
+    #[tactic(auto, unfolding(crate::specs::States::in_values))]
+    pub fn in_values(&self) -> bool
+        ensures { result ≡ in_values self.now }
+    {
+        match self.mode {
+            Mode::Values => true,
+            Mode::Items => false,
+            Mode::Layout { .. } => false,
+        }
+    }
+
+    pub fn is_raised(&self) -> bool
+        ensures { result ≡ self.now.raised }
+    {
+        self.raised
+    }
+
+    /// The state after a piece.
+    #[tactic(auto, unfolding(crate::specs::States::after))]
+    pub fn after(&self, piece: &Piece) -> State
+        ensures { result ≡ after piece.now self.now }
+    {
+        State {
+            braces: opened(piece.kind(), self.braces),
+            mode: mode_after(piece.kind(), self.mode),
+            raised: piece.is_raised(),
+        }
+    }
+}
+
+fn opened(kind: Kind, braces: u32) -> u32
+    ensures { result ≡ opened kind braces }
+{
+    match kind {
+        Kind::Closes => braces.saturating_sub(1),
+        Kind::OpensValues => braces.saturating_add(1),
+        Kind::OpensItems => braces.saturating_add(1),
+        Kind::Plain => braces,
+    }
+}
+
+fn mode_after(kind: Kind, mode: Mode) -> Mode
+    ensures { result ≡ mode_after kind mode }
+{
+    match kind {
+        Kind::Closes => Mode::Items,
+        Kind::OpensValues => Mode::Values,
+        Kind::OpensItems => Mode::Items,
+        Kind::Plain => mode,
+    }
+}
+
+#[tactic(auto, unfolding(crate::specs::States::layout_field))]
+fn layout_field(text: &str, opens: bool) -> bool
+    ensures { result ≡ layout_field text.now opens }
+{
+    if is_field(text) {
+        let value = value(text);
+        !begins_with(value.as_bytes(), b'{') && !(opens && value.is_empty())
+    } else {
+        false
+    }
+}
