@@ -1,2 +1,4 @@
 pub mod Cutting
 pub mod Turns
+pub mod OneOlderTree
+pub mod Latin1

@@ -1,3 +1,4 @@
 pub mod Cuts
 pub mod States
 pub mod Relaid
+pub mod OlderTree

@@ -1,0 +1,24 @@
+-- The tree of a file in the older layout, and its first fault.
+use Rattle.std.specs.Prelude.{ℕ, Bool, List, if◌then◌else◌}
+use Rattle.std.specs.Str.{is_utf8, encode_utf8_all}
+use Rattle.plan_types.specs.declared.element.Element.{Element}
+use Rattle.plan_types.specs.declared.refusal.Cause.{Cause}
+use Rattle.cabal_lexer.specs.Lines.{Line, kept_lines}
+use Rattle.cabal_lexer.specs.Fault.{StandsFor, FirstFault}
+use Rattle.older_layout.specs.Relaid.{relaid}
+
+-- the text of a file; if it isn't UTF-8, each byte is a character
+unfoldable pub decoded : List ℕ → List ℕ
+decoded bytes = if is_utf8 bytes then bytes else encode_utf8_all bytes
+
+-- the kept lines of a text, laid out again
+abbrev pub older_lines : List ℕ → List Line
+older_lines text = relaid (kept_lines text)
+
+-- the file parses as this tree
+abbrev pub IsOlderTree : List ℕ → List Element → Type 0
+IsOlderTree bytes items = StandsFor (older_lines (decoded bytes)) items
+
+-- the first fault of the file
+abbrev pub IsOlderFault : List ℕ → ℕ → Cause → Type 0
+IsOlderFault bytes line cause = FirstFault (older_lines (decoded bytes)) line cause
