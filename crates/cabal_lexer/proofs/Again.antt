@@ -21,18 +21,15 @@ use Rattle.cabal_lexer.specs.Layout.{ends, Ends, Inside, Begins, texts, first_va
 use Rattle.cabal_lexer.specs.Canonical.{value_lines, field_text, section_line, items_text, element_text}
 use Rattle.cabal_lexer.specs.Folds.{text-field, text-section, zero-field, zero-section, return-field, return-section}
 use Rattle.cabal_lexer.specs.RoundTrip.{zero_layer, unnumbered, ends_with_return, return_layer, without_returns}
-use Rattle.cabal_lexer.proofs.TextPieces.{OneLine, Piece, Piece-join, Piece-trim, Piece-trim_end, front-take, front-drop, start-same}
-use Rattle.cabal_lexer.proofs.Beginnings.{IsName, IsName-lower, Named, opening-parts, within-ok, within-from, opening-bare_field, opening-field, opening-bare_section, opening-section}
+use Rattle.cabal_lexer.specs.Printable.{OneLine, Piece, IsName, IsKeptText, Further, Values, WithoutReturns, AreArgs, Printable}
+use Rattle.cabal_lexer.specs.Printable as printable
+use Rattle.cabal_lexer.proofs.TextPieces.{Piece-join, Piece-trim, Piece-trim_end, front-take, front-drop, start-same}
+use Rattle.cabal_lexer.proofs.Beginnings.{IsName-lower, Named, opening-parts, within-ok, within-from, opening-bare_field, opening-field, opening-bare_section, opening-section}
 use Rattle.cabal_lexer.proofs.CanonicalLines.{joined, Clean, AllClean, clean-append, BeginsAscii, ascii-append, return-append, return-cons, kept_from-append, line_of, kept_line-printed}
 use Rattle.std.proofs.lemmas.Bool.{not-true, and_parts, and_from}
 use Rattle.text_grammar.proofs.Boundaries.{boundary_front, is_blank-ascii}
 
 -- ---- properties of parsed lines
-
-pub record IsKeptText (text : List ℕ) : Type 0 where
-  pub piece : Piece text
-  pub some : 0 < length text
-  pub code : is_comment text ≡ false
 
 abbrev pub KeptTexts : List Line → Type 0
 KeptTexts [] = Unit {0}
@@ -45,15 +42,6 @@ kept-front (line ∷ a) b h = (h.0, kept-front a b h.1)
 kept-back : (a b : List Line) → KeptTexts (a ++ b) → KeptTexts b
 kept-back [] b h = h
 kept-back (line ∷ a) b h = kept-back a b h.1
-
--- further values, and all of a field
-abbrev Further : List (List ℕ) → Type 0
-Further [] = Unit {0}
-Further (value ∷ values) = IsKeptText value × Further values
-
-abbrev Values : List (List ℕ) → Type 0
-Values [] = Unit {0}
-Values (value ∷ values) = Piece value × (0 < length value) × Further values
 
 further : (lines : List Line) → KeptTexts lines → Further (texts lines)
 further [] h = tt
@@ -492,40 +480,44 @@ module _ (depth : ℕ) (line : Line) (h : IsKeptText line.text) where
 
 -- ---- a tree
 
-mutual
-  pub again-items : {bound depth : ℕ} {braced : Bool} {lines : List Line} {items : List Element} → Stands bound depth braced lines items → KeptTexts lines →
-      without_returns items ≡ true → (s : List ℕ) → IsIndent s → (k : ℕ) → PrintedItems s depth k (items_text items s) items
-  again-items {depth = depth} nothing h r s i k = no-items s depth k
-  again-items {depth = depth} (element {items = items} {item = item} line block rest e b t) h r s i k =
-      let p = again-item b h.0 (kept-front block rest h.1) ((and_parts _ _ r).0) s i k in
-      more-items s depth k (element_text item s) (items_text items s) item items p
-      (again-items t (kept-back block rest h.1) ((and_parts (fold-Element Bool return_layer item) _ r).1) s i (k + 1 + length p.others))
+pub printed-items : {depth : ℕ} {items : List Element} → Printable depth items → (s : List ℕ) → IsIndent s → (k : ℕ) → PrintedItems s depth k (items_text items s) items
+printed-items {depth} printable.nothing s i k = no-items s depth k
+printed-items {depth} (printable.field {name = name} {values = values} {items = items} line low n v r more) s i k =
+    let p = subst (λ t. PrintedItem s depth k t (Field line name values)) (sym (text-field line name values s)) (field-printed s i depth k line low name n values v r) in
+    more-items s depth k (element_text (Field line name values) s) (items_text items s) (Field line name values) items p (printed-items more s i (k + 1 + length p.others))
+printed-items {depth} (printable.section {name = name} {args = args} {inside = inside} {items = items} line low n a t more) s i k =
+    let p = subst (λ v. PrintedItem s depth k v (Section line name args inside)) (sym (text-section line name args inside s))
+    (section-printed s i depth k line low name n inside (printed-items t (s ++ 32 ∷ 32 ∷ []) (indent-more s (32 ∷ 32 ∷ []) i two) (k + 1)) args a.piece a.no_colon a.no_brace a.return) in
+    more-items s depth k (element_text (Section line name args inside) s) (items_text items s) (Section line name args inside) items p (printed-items more s i (k + 1 + length p.others))
 
-  pub again-item : {depth : ℕ} {braced : Bool} {line : Line} {block rest : List Line} {item : Element} → Block depth braced line block rest item → IsKeptText line.text → KeptTexts block →
-      fold-Element Bool return_layer item ≡ true → (s : List ℕ) → IsIndent s → (k : ℕ) → PrintedItem s depth k (element_text item s) item
-  again-item {depth} {braced} {line} (run {name = name} {first = first} {values = values} b i x) h g r s j k =
+-- ---- the tree of lines is printable
+
+mutual
+  pub printable-items : {bound depth : ℕ} {braced : Bool} {lines : List Line} {items : List Element} → Stands bound depth braced lines items → KeptTexts lines →
+      without_returns items ≡ true → Printable depth items
+  printable-items nothing h r = printable.nothing
+  printable-items (element {items = items} {item = item} line block rest e b t) h r =
+      printable-item b h.0 (kept-front block rest h.1) ((and_parts _ _ r).0) items
+      (printable-items t (kept-back block rest h.1) ((and_parts (fold-Element Bool return_layer item) _ r).1))
+
+  pub printable-item : {depth : ℕ} {braced : Bool} {line : Line} {block rest : List Line} {item : Element} → Block depth braced line block rest item → IsKeptText line.text → KeptTexts block →
+      fold-Element Bool return_layer item ≡ true → (others : List Element) → Printable depth others → Printable depth (item ∷ others)
+  printable-item {depth} {braced} {line} (run {name = name} {first = first} {values = values} b i x) h g r others more =
       let q = name-parts depth line h (field name first) name b (named-parts depth line h (field name first) b).0 in
       let all = first_value first ++ texts values in
-      subst (λ v. PrintedItem s depth k v (Field line.number name all)) (sym (text-field line.number name all s))
-      (field-printed s j depth k line.number q.low name q.name_is all (values-from_first first values (first-part depth line h name first b) g) (sym (return-field line.number name all) ∙ r))
-  again-item {depth} {braced} {line} (braced_run {name = name} values close b i c) h g r s j k =
+      printable.field line.number q.low q.name_is (values-from_first first values (first-part depth line h name first b) g) (sym (return-field line.number name all) ∙ r) more
+  printable-item {depth} {braced} {line} (braced_run {name = name} values close b i c) h g r others more =
       let q = name-parts depth line h (braced_field name) name b (named-parts depth line h (braced_field name) b) in
-      subst (λ v. PrintedItem s depth k v (Field line.number name (texts values))) (sym (text-field line.number name (texts values) s))
-      (field-printed s j depth k line.number q.low name q.name_is (texts values) (values-from_texts values (kept-front values (close ∷ []) g))
-      (sym (return-field line.number name (texts values)) ∙ r))
-  again-item {depth} {braced} {line} (indented {name = name} {args = args} {items = items} b t x) h g r s j k =
+      printable.field line.number q.low q.name_is (values-from_texts values (kept-front values (close ∷ []) g)) (sym (return-field line.number name (texts values)) ∙ r) more
+  printable-item {depth} {braced} {line} (indented {name = name} {args = args} {items = items} b t x) h g r others more =
       let q = name-parts depth line h (section name args) name b (named-parts depth line h (section name args) b).0 in
       let a = args-part depth line h name args b in
       let plain = sym (return-section line.number name args items) ∙ r in
-      subst (λ v. PrintedItem s depth k v (Section line.number name args items)) (sym (text-section line.number name args items s))
-      (section-printed s j depth k line.number q.low name q.name_is items
-      (again-items t g ((and_parts (not (ends_with_return args)) (without_returns items) plain).1) (s ++ 32 ∷ 32 ∷ []) (indent-more s (32 ∷ 32 ∷ []) j two) (k + 1))
-      args a.0 a.1 a.2 (not-true _ ((and_parts _ (without_returns items) plain).0)))
-  again-item {depth} {braced} {line} (enclosed {name = name} {args = args} {items = items} block close b t c) h g r s j k =
+      printable.section line.number q.low q.name_is (record { piece = a.0; no_colon = a.1; no_brace = a.2; return = not-true _ ((and_parts _ (without_returns items) plain).0) })
+      (printable-items t g ((and_parts (not (ends_with_return args)) (without_returns items) plain).1)) more
+  printable-item {depth} {braced} {line} (enclosed {name = name} {args = args} {items = items} block close b t c) h g r others more =
       let q = name-parts depth line h (braced_section name args) name b (named-parts depth line h (braced_section name args) b).0 in
       let a = braced_args-part depth line h name args b in
       let plain = sym (return-section line.number name args items) ∙ r in
-      subst (λ v. PrintedItem s depth k v (Section line.number name args items)) (sym (text-section line.number name args items s))
-      (section-printed s j depth k line.number q.low name q.name_is items
-      (again-items t (kept-front block (close ∷ []) g) ((and_parts (not (ends_with_return args)) (without_returns items) plain).1) (s ++ 32 ∷ 32 ∷ []) (indent-more s (32 ∷ 32 ∷ []) j two) (k + 1))
-      args a.0 a.1 a.2 (not-true _ ((and_parts _ (without_returns items) plain).0)))
+      printable.section line.number q.low q.name_is (record { piece = a.0; no_colon = a.1; no_brace = a.2; return = not-true _ ((and_parts _ (without_returns items) plain).0) })
+      (printable-items t (kept-front block (close ∷ []) g) ((and_parts (not (ends_with_return args)) (without_returns items) plain).1)) more

@@ -14,16 +14,11 @@ use Rattle.cabal_lexer.specs.Lines.{indent, trim_start, trim_end, trim, is_comme
 use Rattle.cabal_lexer.specs.Opening.{Opening, field, braced_field, section, braced_section, is_name_byte, name_len, lower_case, is_lone, ends_with_brace, field_opening, before_brace, section_opening, named_opening, opening, within}
 use Rattle.plan_types.specs.Bytes.{begins_with}
 use Rattle.cabal_lexer.proofs.Runs.{front_passes}
-use Rattle.cabal_lexer.proofs.TextPieces.{Piece, prefix-past, trim-behind, trim_start-behind, trim-same}
+use Rattle.cabal_lexer.specs.Printable.{Piece, IsName}
+use Rattle.cabal_lexer.proofs.TextPieces.{prefix-past, trim-behind, trim_start-behind, trim-same}
 use Rattle.std.proofs.lemmas.Bool.{and_from, and_parts}
 use Rattle.std.proofs.Math.Bool.{and-false}
 use Rattle.std.proofs.lemmas.Str.Ascii.{lowercase-lowercase}
-
-pub record IsName (name : List ℕ) : Type 0 where
-  pub bytes : list_all is_name_byte name ≡ true
-  pub letter : list_any is_letter name ≡ true
-  pub lower : lower_case name ≡ name
-  pub code : is_comment name ≡ false
 
 -- ---- lower case
 

@@ -10,7 +10,8 @@ use Rattle.std.proofs.lemmas.Bool.Decides.{nat_tests}
 use Rattle.cabal_lexer.specs.Lines.{Line, indent, is_comment, is_kept, kept_line, kept_from, mark, without_mark}
 use Rattle.plan_types.specs.Bytes.{is_blank}
 use Rattle.cabal_lexer.specs.RoundTrip.{ends_with_return}
-use Rattle.cabal_lexer.proofs.TextPieces.{OneLine, Piece, trim-behind, indent-behind}
+use Rattle.cabal_lexer.specs.Printable.{OneLine, Piece}
+use Rattle.cabal_lexer.proofs.TextPieces.{trim-behind, indent-behind}
 
 -- each line, followed by a line feed
 abbrev pub joined : List (List ℕ) → List ℕ

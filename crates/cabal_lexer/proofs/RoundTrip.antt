@@ -17,9 +17,10 @@ use Rattle.cabal_lexer.specs.Fault.{StandsFor, IsTree}
 use Rattle.cabal_lexer.specs.Canonical.{canonical}
 use Rattle.cabal_lexer.specs.RoundTrip.{unnumbered, without_returns}
 use Rattle.cabal_lexer.proofs.Runs.{front_passes}
-use Rattle.cabal_lexer.proofs.TextPieces.{OneLine, Piece-trim}
+use Rattle.cabal_lexer.specs.Printable.{OneLine, Printable}
+use Rattle.cabal_lexer.proofs.TextPieces.{Piece-trim}
 use Rattle.cabal_lexer.proofs.CanonicalLines.{lines-joined, utf8-joined, without_mark-ascii}
-use Rattle.cabal_lexer.proofs.Again.{KeptTexts, none, again-items}
+use Rattle.cabal_lexer.proofs.Again.{KeptTexts, none, printed-items, printable-items}
 
 -- ---- the lines of a text in UTF-8
 
@@ -120,13 +121,19 @@ kept-texts k (raw ∷ raws) h = kept-at k raw (kept_from (k + 1) raws) (is_kept 
 
 -- ---- the round trip
 
-pub round_trip : (bytes : List ℕ) (items : List Element) → IsTree bytes items → without_returns items ≡ true →
-    (again : List Element) × IsTree (canonical items) again × (unnumbered again ≡ unnumbered items)
-round_trip bytes items t r =
-    let p = again-items t.1 (kept-texts 1 (lines (without_mark bytes)) (raw-lines (without_mark bytes) (without_mark-utf8 bytes t.0))) r [] none 1 in
+pub printed_tree : (items : List Element) → Printable 1 items → (again : List Element) × IsTree (canonical items) again × (unnumbered again ≡ unnumbered items)
+printed_tree items t =
+    let p = printed-items t [] none 1 in
     let kept : kept_from 1 p.raws ≡ kept_lines (canonical items) =
     ap (kept_from 1) (sym (lines-joined p.raws p.clean)) ∙ ap (λ v. kept_from 1 (lines v)) (sym (without_mark-ascii (canonical items) p.ascii ∙ p.whole)) in (
       p.again,
       (subst IsUtf8 (sym p.whole) (utf8-joined p.raws p.clean), subst (λ v. StandsFor v p.again) kept (p.stands 0 (omega arith))),
       p.same,
     )
+
+pub printable_tree : (bytes : List ℕ) (items : List Element) → IsTree bytes items → without_returns items ≡ true → Printable 1 items
+printable_tree bytes items t r = printable-items t.1 (kept-texts 1 (lines (without_mark bytes)) (raw-lines (without_mark bytes) (without_mark-utf8 bytes t.0))) r
+
+pub round_trip : (bytes : List ℕ) (items : List Element) → IsTree bytes items → without_returns items ≡ true →
+    (again : List Element) × IsTree (canonical items) again × (unnumbered again ≡ unnumbered items)
+round_trip bytes items t r = printed_tree items (printable_tree bytes items t r)

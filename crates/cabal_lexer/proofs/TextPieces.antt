@@ -8,19 +8,11 @@ use Rattle.std.proofs.lemmas.List.{reverse-append, reverse-reverse, length-rever
 use Rattle.std.proofs.lemmas.List.Elements.{All-take, All-drop, All-append}
 use Rattle.std.proofs.lemmas.Str.{IsUtf8-take, IsUtf8-drop, IsUtf8-append}
 use Rattle.cabal_lexer.specs.Lines.{indent, trim_start, trim_end, trim}
+pub use Rattle.cabal_lexer.specs.Printable.{OneLine, Piece}
 use Rattle.plan_types.specs.Bytes.{is_blank}
 use Rattle.cabal_lexer.proofs.Texts.{boundary_end, trim_end-take}
 use Rattle.std.proofs.lemmas.Bool.{and_parts}
 use Rattle.text_grammar.proofs.Boundaries.{boundary_front, is_blank-ascii}
-
-abbrev pub OneLine : List ℕ → Type 0
-OneLine text = All (λ b. (b == 10) ≡ false) text
-
-pub record Piece (text : List ℕ) : Type 0 where
-  pub front : indent text ≡ 0
-  pub back : indent (reverse text) ≡ 0
-  pub one_line : OneLine text
-  pub utf8 : IsUtf8 text
 
 -- ---- prefixes that pass
 

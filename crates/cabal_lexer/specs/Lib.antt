@@ -4,6 +4,7 @@ pub mod Layout
 pub mod Fault
 pub mod Canonical
 pub mod RoundTrip
+pub mod Printable
 pub mod Folds
 pub mod Tree
 pub mod Examples

@@ -4,6 +4,7 @@ ghost use Rattle.plan_types.specs.declared.element.Element.{Element};
 ghost use Rattle.plan_types.specs.declared.refusal.Cause.{Cause};
 ghost use Rattle.cabal_lexer.specs.Fault.{IsTree, IsFault};
 ghost use Rattle.cabal_lexer.specs.Canonical.{canonical};
+ghost use Rattle.cabal_lexer.specs.Printable.{Printable};
 ghost use Rattle.cabal_lexer.specs.RoundTrip.{unnumbered, without_returns};
 
 /// A text has at most one tree.
@@ -28,4 +29,16 @@ pub fn tree_or_fault()
 pub fn round_trip()
     ensures { (bytes : List ℕ) (items : List Element) → IsTree bytes items → without_returns items ≡ true →
         (again : List Element) × IsTree (canonical items) again × (unnumbered again ≡ unnumbered items) }
+{}
+
+/// The canonical text of a printable tree parses as the same tree, except for line numbers.
+pub fn printed_tree()
+    ensures { (items : List Element) → Printable 1 items →
+        (again : List Element) × IsTree (canonical items) again × (unnumbered again ≡ unnumbered items) }
+{}
+
+/// A text's tree is printable, unless a value or args end with a carriage return.
+pub fn printable_tree()
+    ensures { (bytes : List ℕ) (items : List Element) → IsTree bytes items → without_returns items ≡ true
+        → Printable 1 items }
 {}

@@ -13,7 +13,7 @@ mod opening;
 mod print;
 mod read;
 
-pub use laws::{one_fault, one_tree, round_trip, tree_or_fault};
+pub use laws::{one_fault, one_tree, printable_tree, printed_tree, round_trip, tree_or_fault};
 pub use lines::{Line, is_comment, is_lone, kept_lines, trim, trim_end, trim_start};
 pub use opening::name_len;
 pub use print::print_elements;
