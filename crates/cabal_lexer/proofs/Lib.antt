@@ -13,3 +13,4 @@ pub mod CanonicalLines
 pub mod Again
 pub mod RoundTrip
 pub mod ElementTrees
+pub mod IsPrintable

@@ -93,7 +93,7 @@ fn is_blank(byte: u8) -> bool
 }
 
 #[tactic(auto, unfolding(crate::specs::Lines::indent))]
-fn indent(text: &[u8]) -> usize
+pub fn indent(text: &[u8]) -> usize
     ensures value { result ≡ indent text.now }
     ensures bound { result ≤ length text.now }
 {
@@ -109,7 +109,7 @@ pub fn trim_start(text: &str) -> &str
 }
 
 #[tactic(auto, unfolding(crate::specs::Lines::indent))]
-fn trailing(text: &[u8]) -> usize
+pub fn trailing(text: &[u8]) -> usize
     ensures { result ≡ indent (reverse text.now) }
 {
     text.iter()
