@@ -15,7 +15,7 @@ mod printable;
 mod read;
 
 pub use laws::{one_fault, one_tree, printable_tree, printed_tree, round_trip, tree_or_fault};
-pub use lines::{Line, is_comment, is_lone, kept_lines, trim, trim_end, trim_start};
+pub use lines::{Line, indent, is_comment, is_lone, kept_lines, trim, trim_end, trim_start};
 pub use opening::name_len;
 pub use print::print_elements;
 pub use printable::is_printable;

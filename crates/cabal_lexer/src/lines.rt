@@ -92,6 +92,7 @@ fn is_blank(byte: u8) -> bool
     byte == b' ' || byte == b'\t'
 }
 
+/// The number of leading blanks.
 #[tactic(auto, unfolding(crate::specs::Lines::indent))]
 pub fn indent(text: &[u8]) -> usize
     ensures value { result ≡ indent text.now }

@@ -1,15 +1,21 @@
 -- The lines of a file, laid out again: each piece between braces on a line of its own.
-use Rattle.std.specs.Prelude.{ℕ, zero, suc, Bool, true, false, ◌&&◌, List, [], ◌∷◌, ◌++◌, if◌then◌else◌, length, drop}
+use Rattle.std.specs.Prelude.{ℕ, zero, suc, Bool, true, false, ◌||◌, List, [], ◌∷◌, ◌++◌, if◌then◌else◌, length, drop, min}
 use Rattle.plan_types.specs.Bytes.{begins_with}
-use Rattle.cabal_lexer.specs.Lines.{Line}
+use Rattle.cabal_lexer.specs.Lines.{Line, indent}
 use Rattle.older_layout.specs.declared.state.State.{State}
 use Rattle.older_layout.specs.Cuts.{Piece, uncommented, first_piece}
-use Rattle.older_layout.specs.States.{start, in_values, goes_on, begins_layout, in_layout, begun, after}
+use Rattle.older_layout.specs.States.{start, in_values, goes_on, layout_field, in_layout, begun, closed, after}
 
 -- whether the next line begins with `{`
 abbrev pub opens : List Line → Bool
 opens [] = false
 opens (line ∷ lines) = begins_with 123 line.text
+
+-- the indent of a piece that doesn't begin its line: deeper than each line of a file
+abbrev pub inline : ℕ
+inline = 1048576
+
+-- ---- pieces
 
 -- the text of a piece; a brace on the next line is raised to its end
 abbrev pub piece_text : Piece → List ℕ
@@ -19,18 +25,7 @@ piece_text piece = if piece.raised then piece.text ++ 32 ∷ 123 ∷ [] else pie
 abbrev pub piece_line : ℕ → ℕ → Piece → Line
 piece_line number indent piece = record { number = number; indent = indent; text = piece_text piece }
 
--- the indent of a piece that doesn't begin its line: deeper than each line of a file
-abbrev pub inline : ℕ
-inline = 1048576
-
--- the indent of the first piece of a line, and the text of its pieces: what follows a raised brace is inline
-unfoldable pub first_indent : Line → State → ℕ
-first_indent line state = if state.raised then inline else line.indent
-
-unfoldable pub first_text : Line → State → List ℕ
-first_text line state = if state.raised && begins_with 123 line.text then uncommented (drop 1 line.text) else line.text
-
-abbrev in_front : Line → List Line × State → List Line × State
+abbrev pub in_front : {A : Type 0} → Line → List Line × A → List Line × A
 in_front line found = (line ∷ found.0, found.1)
 
 -- the lines of at most so many pieces of a text, and the state after them
@@ -43,14 +38,47 @@ cut_up (suc n) opens number indent state (b ∷ text) =
 
 -- the pieces of a line
 abbrev pub pieces : Bool → State → Line → List Line × State
-pieces opens state line = cut_up (length (first_text line state)) opens line.number (first_indent line state) (begun state) (first_text line state)
+pieces opens state line = cut_up (length line.text) opens line.number line.indent state line.text
 
--- one line; the values of a field in layout aren't cut
+-- ---- braces at the start of a line
+
+abbrev pub begins_with_brace : List ℕ → Bool
+begins_with_brace text = begins_with 123 text || begins_with 125 text
+
+-- What follows a brace at the start of a line is a line of its own; its indent is the number of blanks in between.
+unfoldable pub behind : Line → Line
+behind line =
+    if begins_with_brace line.text
+    then record { number = line.number; indent = min (indent (drop 1 line.text)) inline; text = uncommented (drop 1 line.text) }
+    else line
+
+-- the line of a `}`
+abbrev pub close_of : Line → Line
+close_of line = record { number = line.number; indent = line.indent; text = 125 ∷ [] }
+
+-- at most so many `}` at the start of a line among items, the state after them, and the line behind them
+abbrev pub closers : ℕ → State → Line → List Line × (State × Line)
+closers zero state line = ([], (state, line))
+closers (suc n) state line = if begins_with 125 line.text then in_front (close_of line) (closers n (closed state) (behind line)) else ([], (state, line))
+
+-- ---- lines
+
+-- a line among items; a field in layout isn't cut
+unfoldable pub item_line : Bool → State → Line → List Line × State
+item_line opens state line = if layout_field line.text opens then (line ∷ [], in_layout state line.indent) else pieces opens state line
+
+abbrev after_closers : Bool → List Line × (State × Line) → List Line × State
+after_closers opens found = (found.0 ++ (item_line opens found.1.0 found.1.1).0, (item_line opens found.1.0 found.1.1).1)
+
+abbrev pub items_line : Bool → State → Line → List Line × State
+items_line opens state line = after_closers opens (closers (length line.text) state line)
+
+unfoldable pub begun_line : Bool → State → Line → List Line × State
+begun_line opens state line = if in_values state then pieces opens state line else items_line opens state line
+
+-- a line; the further values of a field in layout aren't cut
 unfoldable pub laid : Bool → State → Line → List Line × State
-laid opens state line =
-    if goes_on state line then (line ∷ [], state)
-    else (if begins_layout state line.text opens then (line ∷ [], in_layout state line.indent)
-    else pieces opens state line)
+laid opens state line = if goes_on state line then (line ∷ [], state) else begun_line opens (begun state) (if state.raised then behind line else line)
 
 -- the lines from a state on
 abbrev pub relaid_from : State → List Line → List Line

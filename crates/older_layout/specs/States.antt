@@ -36,10 +36,6 @@ goes_on state line = deeper state.mode line && not (nat_lt 0 state.braces && clo
 unfoldable pub layout_field : List ℕ → Bool → Bool
 layout_field text opens = is_field text && not (begins_with 123 (value text)) && not (opens && (length (value text) == 0))
 
--- whether a line begins a field in layout
-unfoldable pub begins_layout : State → List ℕ → Bool → Bool
-begins_layout state text opens = not state.raised && not (in_values state) && layout_field text opens
-
 -- in a field in layout
 abbrev pub in_layout : State → ℕ → State
 in_layout state indent = record { braces = state.braces; mode = Layout indent; raised = false }
@@ -60,6 +56,10 @@ mode_after Closes mode = Items
 mode_after OpensValues mode = Values
 mode_after OpensItems mode = Items
 mode_after Plain mode = mode
+
+-- after a `}` at the start of a line
+abbrev pub closed : State → State
+closed state = record { braces = opened Closes state.braces; mode = Items; raised = false }
 
 -- the state after a piece
 unfoldable pub after : Piece → State → State

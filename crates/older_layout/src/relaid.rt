@@ -1,11 +1,12 @@
 // The lines of a file, laid out again.
-ghost use Rattle.std.specs.Prelude.{◌≡◌, ◌+◌, ◌<◌, ◌^◌, ◌++◌, [], ◌∷◌, IfOk, OnOk, length};
+ghost use Rattle.std.specs.Prelude.{◌≡◌, ◌+◌, ◌<◌, ◌^◌, ◌++◌, [], ◌∷◌, IfOk, OnOk, length, min};
 ghost use Rattle.plan_types.specs.Bytes.{begins_with};
-ghost use Rattle.older_layout.specs.Relaid.{opens, piece_text, piece_line, first_indent, first_text, pieces, laid, relaid};
+ghost use Rattle.cabal_lexer.specs.Lines.{indent};
+ghost use Rattle.older_layout.specs.Relaid.{begins_with_brace, opens, inline, piece_text, piece_line, pieces, behind, close_of, closers, item_line, items_line, begun_line, laid, relaid};
 
 use crate::cut::{Piece, after, first_piece};
-use crate::state::State;
-use cabal_lexer::Line;
+use crate::state::{State, layout_field};
+use cabal_lexer::{Line, indent};
 use plan_types::{NoMemory, Text};
 use std::alloc::Global;
 use std::marker::Model;
@@ -88,11 +89,122 @@ fn push_line(
     if state.goes_on(line) {
         push_whole(alloc, found, line)?;
         Ok(state)
-    } else if state.begins_layout(line.text(), opens) {
+    } else if state.is_raised() {
+        push_begun(alloc, found, &behind(line), opens, state.begun())
+    } else {
+        push_begun(alloc, found, line, opens, state.begun())
+    }
+}
+
+// A line that isn't a further value of a field in layout.
+#[tactic(auto, unfolding(crate::specs::Relaid::begun_line))]
+fn push_begun(
+    alloc: Global,
+    found: &mut Vec<OwnLine>,
+    line: &Line,
+    opens: bool,
+    state: State,
+) -> Result<State, NoMemory>
+    ensures lines { OnOk result (found.new.items ≡ found.old.items ++ (begun_line opens state line.now).0) }
+    ensures state { IfOk result (λ after. after ≡ (begun_line opens state line.now).1) }
+{
+    if state.in_values() {
+        push_pieces(alloc, found, line, opens, state)
+    } else {
+        push_items(alloc, found, line, opens, state)
+    }
+}
+
+// A line among items.
+fn push_items(
+    alloc: Global,
+    found: &mut Vec<OwnLine>,
+    line: &Line,
+    opens: bool,
+    state: State,
+) -> Result<State, NoMemory>
+    ensures lines { OnOk result (found.new.items ≡ found.old.items ++ (items_line opens state line.now).0) }
+    ensures state { IfOk result (λ after. after ≡ (items_line opens state line.now).1) }
+{
+    let (state, rest) = push_closers(alloc, found, line, state)?;
+    push_item(alloc, found, &rest, opens, state)
+}
+
+// The `}` at the start of a line. Returns the state after them, and the line behind them.
+fn push_closers<'a>(
+    alloc: Global,
+    found: &mut Vec<OwnLine>,
+    line: &Line<'a>,
+    state: State,
+) -> Result<(State, Line<'a>), NoMemory>
+    ensures lines { OnOk result (found.new.items ≡ found.old.items
+        ++ (closers (length line.now.text) state line.now).0) }
+    ensures rest { IfOk result (λ r. (r.0, r.1) ≡ (closers (length line.now.text) state line.now).1) }
+{
+    let mut state = state;
+    let mut rest = copied(line);
+    while begins_with(rest.text().as_bytes(), b'}') {
+        push_close(alloc, found, &rest)?;
+        state = state.closed();
+        rest = behind(&rest);
+    }
+    Ok((state, rest))
+}
+
+// A line among items that doesn't begin with `}`.
+#[tactic(auto, unfolding(crate::specs::Relaid::item_line))]
+fn push_item(
+    alloc: Global,
+    found: &mut Vec<OwnLine>,
+    line: &Line,
+    opens: bool,
+    state: State,
+) -> Result<State, NoMemory>
+    ensures lines { OnOk result (found.new.items ≡ found.old.items ++ (item_line opens state line.now).0) }
+    ensures state { IfOk result (λ after. after ≡ (item_line opens state line.now).1) }
+{
+    if layout_field(line.text(), opens) {
         push_whole(alloc, found, line)?;
         Ok(state.in_layout(line.indent()))
     } else {
         push_pieces(alloc, found, line, opens, state)
+    }
+}
+
+// What follows a brace at the start of a line.
+#[tactic(auto, unfolding(crate::specs::Relaid::behind))]
+fn behind<'a>(line: &Line<'a>) -> Line<'a>
+    ensures { result ≡ behind line.now }
+{
+    let text = line.text();
+    if begins_with_brace(text.as_bytes()) {
+        let (_, rest) = text.split_at(1);
+        Line::new(line.number(), short_indent(rest), after(rest))
+    } else {
+        copied(line)
+    }
+}
+
+fn begins_with_brace(text: &[u8]) -> bool
+    ensures { result ≡ begins_with_brace text.now }
+{
+    begins_with(text, b'{') || begins_with(text, b'}')
+}
+
+fn copied<'a>(line: &Line<'a>) -> Line<'a>
+    ensures { result ≡ line.now }
+{
+    Line::new(line.number(), line.indent() as u32, line.text())
+}
+
+fn short_indent(text: &str) -> u32
+    ensures { result ≡ min (indent text.now) inline }
+{
+    let indent = indent(text.as_bytes());
+    if indent < INLINE as usize {
+        indent as u32
+    } else {
+        INLINE
     }
 }
 
@@ -103,6 +215,17 @@ fn push_whole(alloc: Global, found: &mut Vec<OwnLine>, line: &Line) -> Result<()
         number: line.number(),
         indent: line.indent() as u32,
         text: Text::from_str(alloc, line.text())?,
+    };
+    Ok(found.push(line)?)
+}
+
+fn push_close(alloc: Global, found: &mut Vec<OwnLine>, line: &Line) -> Result<(), NoMemory>
+    ensures { OnOk result (found.new.items ≡ found.old.items ++ close_of line.now ∷ []) }
+{
+    let line = OwnLine {
+        number: line.number(),
+        indent: line.indent() as u32,
+        text: Text::from_str(alloc, "}")?,
     };
     Ok(found.push(line)?)
 }
@@ -118,9 +241,9 @@ fn push_pieces(
     ensures lines { OnOk result (found.new.items ≡ found.old.items ++ (pieces opens state line.now).0) }
     ensures state { IfOk result (λ after. after ≡ (pieces opens state line.now).1) }
 {
-    let mut indent = first_indent(line, state);
-    let mut rest = first_text(line, state);
-    let mut state = state.begun();
+    let mut indent = line.indent() as u32;
+    let mut rest = line.text();
+    let mut state = state;
     while !rest.is_empty() {
         let piece = first_piece(rest, state.in_values(), opens);
         push_piece(alloc, found, line.number(), indent, &piece)?;
@@ -129,31 +252,6 @@ fn push_pieces(
         rest = piece.rest();
     }
     Ok(state)
-}
-
-#[tactic(auto, unfolding(crate::specs::Relaid::first_indent))]
-fn first_indent(line: &Line, state: State) -> u32
-    ensures { result ≡ first_indent line.now state }
-{
-    if state.is_raised() {
-        INLINE
-    } else {
-        line.indent() as u32
-    }
-}
-
-// The text of a line, without a brace that is the end of the last piece.
-#[tactic(auto, unfolding(crate::specs::Relaid::first_text))]
-fn first_text<'a>(line: &Line<'a>, state: State) -> &'a str
-    ensures { result.now ≡ first_text line.now state }
-{
-    let text = line.text();
-    if state.is_raised() && begins_with(text.as_bytes(), b'{') {
-        let (_, rest) = text.split_at(1);
-        after(rest)
-    } else {
-        text
-    }
 }
 
 fn push_piece(

@@ -2,7 +2,7 @@
 ghost use Rattle.std.specs.Prelude.{◌≡◌, false, true};
 ghost use Rattle.plan_types.specs.Bytes.{begins_with};
 ghost use Rattle.older_layout.specs.Cuts.{is_field, value};
-ghost use Rattle.older_layout.specs.States.{opened, mode_after, after, goes_on, begun, in_layout, in_values, start, begins_layout, layout_field};
+ghost use Rattle.older_layout.specs.States.{opened, mode_after, after, goes_on, begun, closed, in_layout, in_values, start, layout_field};
 
 use crate::cut::{Kind, Piece, after, has_value, is_field, value};
 use cabal_lexer::Line;
@@ -51,14 +51,6 @@ impl State {
         }
     }
 
-    /// Whether a line begins a field in layout.
-    #[tactic(auto, unfolding(crate::specs::States::begins_layout))]
-    pub fn begins_layout(&self, text: &str, opens: bool) -> bool
-        ensures { result ≡ begins_layout self.now text.now opens }
-    {
-        !self.raised && !self.in_values() && layout_field(text, opens)
-    }
-
     /// The state in a field in layout.
     pub fn in_layout(&self, indent: usize) -> State
         ensures { result ≡ in_layout self.now indent }
@@ -100,6 +92,17 @@ impl State {
         self.raised
     }
 
+    /// The state after a `}` at the start of a line.
+    pub fn closed(&self) -> State
+        ensures { result ≡ closed self.now }
+    {
+        State {
+            braces: opened(Kind::Closes, self.braces),
+            mode: Mode::Items,
+            raised: false,
+        }
+    }
+
     /// The state after a piece.
     #[tactic(auto, unfolding(crate::specs::States::after))]
     pub fn after(&self, piece: &Piece) -> State
@@ -135,8 +138,9 @@ fn mode_after(kind: Kind, mode: Mode) -> Mode
     }
 }
 
+/// Whether a text is a field whose values aren't in braces.
 #[tactic(auto, unfolding(crate::specs::States::layout_field))]
-fn layout_field(text: &str, opens: bool) -> bool
+pub fn layout_field(text: &str, opens: bool) -> bool
     ensures { result ≡ layout_field text.now opens }
 {
     if is_field(text) {
