@@ -8,13 +8,13 @@ use Rattle.std.proofs.lemmas.Str.{IsCharBoundary-end, IsCharBoundary-before_asci
 use Rattle.std.proofs.lemmas.List.Sums.{prefix_len-le-length, prefix_len_stops}
 use Rattle.std.proofs.lemmas.Bool.{cases_lt, and_parts}
 use Rattle.std.proofs.lemmas.Bool.Decides.{nat_tests}
-use Rattle.plan_types.specs.Bytes.{is_blank, begins_with}
+use Rattle.plan_types.specs.Bytes.{begins_with}
 use Rattle.cabal_lexer.specs.Lines.{indent, trim_start, is_comment}
 use Rattle.cabal_lexer.specs.Opening.{name_len}
 use Rattle.cabal_lexer.proofs.Texts.{begins_with-boundary}
 use Rattle.older_layout.specs.declared.cut.Kind.{Kind}
 use Rattle.older_layout.specs.declared.cut.Kind.TheVariants.{Closes, OpensValues, OpensItems, Plain}
-use Rattle.older_layout.specs.Cuts.{after_name, is_field, has_value, brace_len, close_len, code_len, field_cut, section_cut, item_cut, value_cut, cut, uncommented}
+use Rattle.older_layout.specs.Cuts.{ends_word, after_name, is_field, has_value, brace_len, close_len, code_len, field_cut, section_cut, item_cut, value_cut, cut, uncommented}
 
 -- ---- lengths
 
@@ -60,24 +60,24 @@ begun-at (c ∷ text) zero b h = (omega arith, grind (arith, nat_tests))
 begun-at (c ∷ text) (suc n) b h = let p = begun-at text n b h in (omega (arith, p.0), p.1)
 
 -- a text that `--` follows ends with a blank
-code-at : (b : ℕ) (text : List ℕ) (c : Bool) → (is_blank b && is_comment text) ≡ c →
-    (code_len text < length text → (1 ≤ code_len text) × (is_blank (get_or text (code_len text - 1) 0) ≡ true)) →
+code-at : (b : ℕ) (text : List ℕ) (c : Bool) → (ends_word b && is_comment text) ≡ c →
+    (code_len text < length text → (1 ≤ code_len text) × (ends_word (get_or text (code_len text - 1) 0) ≡ true)) →
     (if c then 1 else 1 + code_len text) < length (b ∷ text) →
-    (1 ≤ (if c then 1 else 1 + code_len text)) × (is_blank (get_or (b ∷ text) ((if c then 1 else 1 + code_len text) - 1) 0) ≡ true)
-code-at b text true e below h = (omega arith, (and_parts (is_blank b) (is_comment text) e).0)
+    (1 ≤ (if c then 1 else 1 + code_len text)) × (ends_word (get_or (b ∷ text) ((if c then 1 else 1 + code_len text) - 1) 0) ≡ true)
+code-at b text true e below h = (omega arith, (and_parts (ends_word b) (is_comment text) e).0)
 code-at b text false e below h =
     let p = below (omega arith) in
     let at : 1 + code_len text - 1 ≡ suc (code_len text - 1) = omega (arith, p.0) in
-    (omega arith, ap (λ n. is_blank (get_or (b ∷ text) n 0)) at ∙ p.1)
+    (omega arith, ap (λ n. ends_word (get_or (b ∷ text) n 0)) at ∙ p.1)
 
-code-blank : (text : List ℕ) → code_len text < length text → (1 ≤ code_len text) × (is_blank (get_or text (code_len text - 1) 0) ≡ true)
+code-blank : (text : List ℕ) → code_len text < length text → (1 ≤ code_len text) × (ends_word (get_or text (code_len text - 1) 0) ≡ true)
 code-blank [] h = absurd (omega arith)
-code-blank (b ∷ text) h = code-at b text (is_blank b && is_comment text) refl (code-blank text) h
+code-blank (b ∷ text) h = code-at b text (ends_word b && is_comment text) refl (code-blank text) h
 
 abbrev pub length_of : Kind × ℕ → ℕ
 length_of c = c.1
 
-blank-low : (b : ℕ) → is_blank b ≡ true → b < 128
+blank-low : (b : ℕ) → ends_word b ≡ true → b < 128
 blank-low b h = grind (arith, nat_tests)
 
 module _ (text : List ℕ) (u : IsUtf8 text) where
@@ -89,7 +89,7 @@ module _ (text : List ℕ) (u : IsUtf8 text) where
       let p = code-blank (take n text) h in
       let le = brace_len-le text in
       let same = get_or-take n text (k - 1) 0 (omega (arith, p.0)) in
-      let low : get_or text (k - 1) 0 < 128 = blank-low _ (ap is_blank (sym same) ∙ p.1) in
+      let low : get_or text (k - 1) 0 < 128 = blank-low _ (ap ends_word (sym same) ∙ p.1) in
       subst (λ i. IsCharBoundary text i) (omega (arith, p.0)) (IsCharBoundary-after_ascii text (k - 1) u (omega (arith, p.0)) low)
 
   head-boundary : IsCharBoundary text (length (take (brace_len text) text))
@@ -153,7 +153,7 @@ section-some : (head : List ℕ) (coded opens : Bool) → nat_lt (code_len head)
 section-some [] true opens e h = absurd cc
 section-some [] false true e h = omega arith
 section-some [] false false e h = let no = h refl in absurd cc
-section-some (b ∷ head) true opens e h = code-some b head (is_blank b && is_comment head)
+section-some (b ∷ head) true opens e h = code-some b head (ends_word b && is_comment head)
 section-some (b ∷ head) false true e h = omega arith
 section-some (b ∷ head) false false e h = omega arith
 

@@ -35,10 +35,14 @@ brace_len text = prefix_len (λ b. not (b == 123) && not (b == 125)) text
 unfoldable pub close_len : List ℕ → ℕ
 close_len text = prefix_len (λ b. not (b == 125)) text
 
--- the length of the text up to a blank that `--` follows, inclusive
+-- whether a byte ends a word of a section's args: a blank, a parenthesis or a bracket
+abbrev pub ends_word : ℕ → Bool
+ends_word b = is_blank b || b == 40 || b == 41 || b == 91 || b == 93
+
+-- the length of the text up to the end of a word that `--` follows, inclusive
 abbrev pub code_len : List ℕ → ℕ
 code_len [] = 0
-code_len (b ∷ text) = if is_blank b && is_comment text then 1 else 1 + code_len text
+code_len (b ∷ text) = if ends_word b && is_comment text then 1 else 1 + code_len text
 
 -- A field takes the brace after it, unless it has a value.
 unfoldable pub field_cut : List ℕ → Bool → Kind × ℕ

@@ -1,5 +1,5 @@
 -- The lines of a file, laid out again: each piece between braces on a line of its own.
-use Rattle.std.specs.Prelude.{ℕ, zero, suc, Bool, true, false, ◌||◌, List, [], ◌∷◌, ◌++◌, if◌then◌else◌, length, drop, min}
+use Rattle.std.specs.Prelude.{ℕ, zero, suc, Bool, true, false, ◌&&◌, ◌||◌, not, List, [], ◌∷◌, ◌++◌, if◌then◌else◌, length, drop, min}
 use Rattle.plan_types.specs.Bytes.{begins_with}
 use Rattle.cabal_lexer.specs.Lines.{Line, indent}
 use Rattle.older_layout.specs.declared.state.State.{State}
@@ -56,29 +56,33 @@ behind line =
 abbrev pub close_of : Line → Line
 close_of line = record { number = line.number; indent = line.indent; text = 125 ∷ [] }
 
--- at most so many `}` at the start of a line among items, the state after them, and the line behind them
+-- at most so many `}` at the start of a line, the state after them, and the line behind them
 abbrev pub closers : ℕ → State → Line → List Line × (State × Line)
 closers zero state line = ([], (state, line))
 closers (suc n) state line = if begins_with 125 line.text then in_front (close_of line) (closers n (closed state) (behind line)) else ([], (state, line))
 
 -- ---- lines
 
--- a line among items; a field in layout isn't cut
+-- a line that doesn't begin with a `}`; a field in layout isn't cut
 unfoldable pub item_line : Bool → State → Line → List Line × State
-item_line opens state line = if layout_field line.text opens then (line ∷ [], in_layout state line.indent) else pieces opens state line
+item_line opens state line =
+    if not (in_values state) && layout_field line.text opens then (line ∷ [], in_layout state line.indent) else pieces opens state line
 
 abbrev after_closers : Bool → List Line × (State × Line) → List Line × State
 after_closers opens found = (found.0 ++ (item_line opens found.1.0 found.1.1).0, (item_line opens found.1.0 found.1.1).1)
 
-abbrev pub items_line : Bool → State → Line → List Line × State
-items_line opens state line = after_closers opens (closers (length line.text) state line)
+abbrev pub whole_line : Bool → State → Line → List Line × State
+whole_line opens state line = after_closers opens (closers (length line.text) state line)
 
-unfoldable pub begun_line : Bool → State → Line → List Line × State
-begun_line opens state line = if in_values state then pieces opens state line else items_line opens state line
+-- a line whose first brace is the end of the last piece
+unfoldable pub raised_line : Bool → State → Line → List Line × State
+raised_line opens state line = if in_values state then pieces opens state line else whole_line opens state line
 
 -- a line; the further values of a field in layout aren't cut
 unfoldable pub laid : Bool → State → Line → List Line × State
-laid opens state line = if goes_on state line then (line ∷ [], state) else begun_line opens (begun state) (if state.raised then behind line else line)
+laid opens state line =
+    if goes_on state line then (line ∷ [], state)
+    else (if state.raised then raised_line opens (begun state) (behind line) else whole_line opens (begun state) line)
 
 -- the lines from a state on
 abbrev pub relaid_from : State → List Line → List Line

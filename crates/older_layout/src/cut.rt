@@ -1,7 +1,7 @@
 // The first piece of a text.
 ghost use Rattle.std.specs.Prelude.{◌≡◌, ◌∷◌, ◌<◌, ◌≤◌, [], true, false, length, drop};
-ghost use Rattle.older_layout.specs.Cuts.{code_len, brace_len, close_len, after_name, is_field, value, has_value, field_cut, section_cut, item_cut, value_cut, cut, uncommented, raised, first_piece};
-ghost use Rattle.plan_types.specs.Bytes.{is_blank, begins_with};
+ghost use Rattle.older_layout.specs.Cuts.{ends_word, code_len, brace_len, close_len, after_name, is_field, value, has_value, field_cut, section_cut, item_cut, value_cut, cut, uncommented, raised, first_piece};
+ghost use Rattle.plan_types.specs.Bytes.{begins_with};
 
 use cabal_lexer::{is_comment, name_len, trim, trim_end, trim_start};
 use std::marker::Model;
@@ -192,7 +192,7 @@ fn brace_len(text: &[u8]) -> usize
         .count()
 }
 
-// The length of the text up to the blank before a comment, inclusive.
+// The length of the text up to the end of the word before a comment, inclusive.
 fn code_len(text: &[u8]) -> usize
     ensures value { result ≡ code_len text.now }
 {
@@ -200,7 +200,7 @@ fn code_len(text: &[u8]) -> usize
     let mut rest = text;
     while let [first, more @ ..] = rest {
         length += 1;
-        if is_blank(*first) && is_comment(more) {
+        if ends_word(*first) && is_comment(more) {
             return length;
         }
         rest = more;
@@ -208,10 +208,10 @@ fn code_len(text: &[u8]) -> usize
     length
 }
 
-fn is_blank(byte: u8) -> bool
-    ensures { result ≡ is_blank byte }
+fn ends_word(byte: u8) -> bool
+    ensures { result ≡ ends_word byte }
 {
-    byte == b' ' || byte == b'\t'
+    matches!(byte, b' ' | b'\t' | b'(' | b')' | b'[' | b']')
 }
 
 #[tactic(auto, unfolding(crate::specs::Cuts::after_name))]

@@ -2,7 +2,7 @@
 ghost use Rattle.std.specs.Prelude.{◌≡◌, ◌+◌, ◌<◌, ◌^◌, ◌++◌, [], ◌∷◌, IfOk, OnOk, length, min};
 ghost use Rattle.plan_types.specs.Bytes.{begins_with};
 ghost use Rattle.cabal_lexer.specs.Lines.{indent};
-ghost use Rattle.older_layout.specs.Relaid.{begins_with_brace, opens, inline, piece_text, piece_line, pieces, behind, close_of, closers, item_line, items_line, begun_line, laid, relaid};
+ghost use Rattle.older_layout.specs.Relaid.{begins_with_brace, opens, inline, piece_text, piece_line, pieces, behind, close_of, closers, item_line, raised_line, whole_line, laid, relaid};
 
 use crate::cut::{Piece, after, first_piece};
 use crate::state::{State, layout_field};
@@ -90,41 +90,41 @@ fn push_line(
         push_whole(alloc, found, line)?;
         Ok(state)
     } else if state.is_raised() {
-        push_begun(alloc, found, &behind(line), opens, state.begun())
+        push_raised(alloc, found, &behind(line), opens, state.begun())
     } else {
-        push_begun(alloc, found, line, opens, state.begun())
+        push_rest(alloc, found, line, opens, state.begun())
     }
 }
 
-// A line that isn't a further value of a field in layout.
-#[tactic(auto, unfolding(crate::specs::Relaid::begun_line))]
-fn push_begun(
+// What follows a brace that is the end of the last piece.
+#[tactic(auto, unfolding(crate::specs::Relaid::raised_line))]
+fn push_raised(
     alloc: Global,
     found: &mut Vec<OwnLine>,
     line: &Line,
     opens: bool,
     state: State,
 ) -> Result<State, NoMemory>
-    ensures lines { OnOk result (found.new.items ≡ found.old.items ++ (begun_line opens state line.now).0) }
-    ensures state { IfOk result (λ after. after ≡ (begun_line opens state line.now).1) }
+    ensures lines { OnOk result (found.new.items ≡ found.old.items ++ (raised_line opens state line.now).0) }
+    ensures state { IfOk result (λ after. after ≡ (raised_line opens state line.now).1) }
 {
     if state.in_values() {
         push_pieces(alloc, found, line, opens, state)
     } else {
-        push_items(alloc, found, line, opens, state)
+        push_rest(alloc, found, line, opens, state)
     }
 }
 
-// A line among items.
-fn push_items(
+// A line that isn't a further value of a field in layout.
+fn push_rest(
     alloc: Global,
     found: &mut Vec<OwnLine>,
     line: &Line,
     opens: bool,
     state: State,
 ) -> Result<State, NoMemory>
-    ensures lines { OnOk result (found.new.items ≡ found.old.items ++ (items_line opens state line.now).0) }
-    ensures state { IfOk result (λ after. after ≡ (items_line opens state line.now).1) }
+    ensures lines { OnOk result (found.new.items ≡ found.old.items ++ (whole_line opens state line.now).0) }
+    ensures state { IfOk result (λ after. after ≡ (whole_line opens state line.now).1) }
 {
     let (state, rest) = push_closers(alloc, found, line, state)?;
     push_item(alloc, found, &rest, opens, state)
@@ -151,7 +151,7 @@ fn push_closers<'a>(
     Ok((state, rest))
 }
 
-// A line among items that doesn't begin with `}`.
+// A line that doesn't begin with `}`.
 #[tactic(auto, unfolding(crate::specs::Relaid::item_line))]
 fn push_item(
     alloc: Global,
@@ -163,7 +163,7 @@ fn push_item(
     ensures lines { OnOk result (found.new.items ≡ found.old.items ++ (item_line opens state line.now).0) }
     ensures state { IfOk result (λ after. after ≡ (item_line opens state line.now).1) }
 {
-    if layout_field(line.text(), opens) {
+    if !state.in_values() && layout_field(line.text(), opens) {
         push_whole(alloc, found, line)?;
         Ok(state.in_layout(line.indent()))
     } else {
