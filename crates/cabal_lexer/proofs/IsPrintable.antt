@@ -1,7 +1,7 @@
 -- What the tests of a tree's texts say.
-use Rattle.std.proofs.Common.{◌≡◌, ℕ, ◌+◌, ◌<◌, Bool, true, false, List, [], ◌∷◌, length, refl, ◌∙◌, ap, arith}
-use Rattle.std.specs.Prelude.{map, not, ◌&&◌, ◌==◌, reverse, nat_le}
-use Rattle.std.specs.List.{list_all, list_any, All}
+use Rattle.std.proofs.Common.{◌≡◌, ℕ, ◌+◌, ◌<◌, true, false, List, [], ◌∷◌, length, refl, ◌∙◌, ap, arith}
+use Rattle.std.specs.Prelude.{map, not, ◌==◌, reverse, nat_le}
+use Rattle.std.specs.List.{list_all, list_any}
 use Rattle.std.specs.Str.{IsUtf8}
 use Rattle.std.specs.Char.{to_ascii_lowercase}
 use Rattle.std.proofs.lemmas.Bool.{not-true, and_parts, and_from}

@@ -119,6 +119,9 @@ unfolding kept_line
 kept-texts k [] h = tt
 kept-texts k (raw ∷ raws) h = kept-at k raw (kept_from (k + 1) raws) (is_kept (trim raw)) refl h.0.0 h.0.1 (kept-texts (k + 1) raws h.1)
 
+pub kept_lines-texts : (text : List ℕ) → IsUtf8 text → KeptTexts (kept_lines text)
+kept_lines-texts text u = kept-texts 1 (lines (without_mark text)) (raw-lines (without_mark text) (without_mark-utf8 text u))
+
 -- ---- the round trip
 
 pub printed_tree : (items : List Element) → Printable 1 items → (again : List Element) × IsTree (canonical items) again × (unnumbered again ≡ unnumbered items)
@@ -132,7 +135,7 @@ printed_tree items t =
     )
 
 pub printable_tree : (bytes : List ℕ) (items : List Element) → IsTree bytes items → without_returns items ≡ true → Printable 1 items
-printable_tree bytes items t r = printable-items t.1 (kept-texts 1 (lines (without_mark bytes)) (raw-lines (without_mark bytes) (without_mark-utf8 bytes t.0))) r
+printable_tree bytes items t r = printable-items t.1 (kept_lines-texts bytes t.0) r
 
 pub round_trip : (bytes : List ℕ) (items : List Element) → IsTree bytes items → without_returns items ≡ true →
     (again : List Element) × IsTree (canonical items) again × (unnumbered again ≡ unnumbered items)

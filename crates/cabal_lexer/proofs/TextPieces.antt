@@ -1,7 +1,7 @@
 -- Shared: pieces of a text: of one line, without blanks at both ends.
 use Rattle.std.proofs.Common.{◌≡◌, ℕ, zero, suc, ◌+◌, ◌-◌, ◌<◌, Bool, true, false, cond, List, [], ◌∷◌, ◌++◌, length, take, drop, refl, ◌∙◌, ap, subst, arith, append_assoc, one-add}
 use Rattle.std.specs.Prelude.{reverse, ◌==◌}
-use Rattle.std.specs.List.{prefix_len, list_all, All}
+use Rattle.std.specs.List.{prefix_len, list_all}
 use Rattle.std.specs.Str.{IsUtf8}
 use Rattle.std.proofs.Math.Seq.{drop-append_seam}
 use Rattle.std.proofs.lemmas.List.{reverse-append, reverse-reverse, length-reverse}

@@ -1,8 +1,10 @@
 //! The layout of Cabal files. `read_elements` takes the bytes of a file and returns its tree of fields and sections, by
 //! lines, indents and braces, or its first fault. The tree is unique, and so is the fault; no file has both.
 //! `into_text` and `elements_of` do the same in two steps, for a caller that keeps the text.
-//! `print_elements` returns the canonical text of a tree. The text parses as the same tree, except for line numbers,
-//! unless a value or args end with a carriage return.
+//! `items_of` reads lines that a caller makes.
+//! `print_elements` returns the canonical text of a tree. The text of a printable tree parses as the same tree, except
+//! for line numbers. A tree that was read is printable, unless a value or args end with a carriage return;
+//! `is_printable` tests any other.
 #![tactic(auto)]
 
 mod elements;
