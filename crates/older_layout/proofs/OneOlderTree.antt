@@ -12,7 +12,14 @@ use Rattle.plan_types.specs.declared.refusal.Fault.{Fault}
 use Rattle.plan_types.specs.declared.refusal.Fault.TheVariants as faults
 use Rattle.plan_types.specs.Refusal.{RefusesAt}
 use Rattle.cabal_lexer.specs.Fault.{StandsFor, FirstFault}
+use Rattle.cabal_lexer.specs.Lines.{kept_lines}
+use Rattle.cabal_lexer.specs.Printable.{Printable}
+use Rattle.cabal_lexer.specs.RoundTrip.{without_returns}
 use Rattle.cabal_lexer.proofs.OneTree as lines
+use Rattle.cabal_lexer.proofs.Again.{printable-items}
+use Rattle.cabal_lexer.proofs.RoundTrip.{kept_lines-texts}
+use Rattle.older_layout.specs.States.{start}
+use Rattle.older_layout.proofs.KeptPieces.{relaid-kept}
 use Rattle.older_layout.specs.OlderTree.{decoded, older_lines, IsOlderTree, IsOlderFault}
 
 pub one_tree : (bytes : List ℕ) (a b : List Element) → IsOlderTree bytes a → IsOlderTree bytes b → a ≡ b
@@ -58,3 +65,10 @@ module _ (bytes text : List ℕ) (same : text ≡ decoded bytes) (r : Result (Li
 
   pub fault-from : IfErr r (RefusesAt (FirstFault (older_lines text))) → IfErr r (RefusesAt (IsOlderFault bytes))
   fault-from h = subst (λ v. IfErr r (RefusesAt (FirstFault (older_lines v)))) same h
+
+-- ---- printable trees
+
+pub printable-tree : (text : List ℕ) (r : Result (List Element) Fault) → IsUtf8 text → IfOk r (λ items. StandsFor (older_lines text) items) →
+    IfOk r (λ items. without_returns items ≡ true → Printable 1 items)
+printable-tree text (Ok items) u t = λ returns. printable-items t (relaid-kept start (kept_lines text) (kept_lines-texts text u)) returns
+printable-tree text (Err fault) u t = tt

@@ -1,10 +1,12 @@
 // The tree of a file.
-ghost use Rattle.std.specs.Prelude.{◌≡◌, ◌≤◌, ◌<◌, ◌-◌, ◌*◌, ◌^◌, ℕ, List, length, IfOk, IfErr, MatchResult};
+ghost use Rattle.std.specs.Prelude.{◌≡◌, ◌≤◌, ◌<◌, ◌-◌, ◌*◌, ◌^◌, ℕ, List, true, length, IfOk, IfErr, MatchResult};
 ghost use Rattle.std.specs.Str.{encode_utf8_all};
 ghost use Rattle.plan_types.specs.declared.element.Element.{Element};
 ghost use Rattle.plan_types.specs.declared.refusal.Cause.{Cause};
 ghost use Rattle.plan_types.specs.Refusal.{RefusesAt};
 ghost use Rattle.cabal_lexer.specs.Fault.{StandsFor, FirstFault};
+ghost use Rattle.cabal_lexer.specs.Printable.{Printable};
+ghost use Rattle.cabal_lexer.specs.RoundTrip.{without_returns};
 ghost use Rattle.older_layout.specs.OlderTree.{older_lines, IsOlderTree, IsOlderFault};
 
 use crate::relaid::{borrowed, relaid};
@@ -21,6 +23,8 @@ pub fn read_older(alloc: Global, bytes: &[u8]) -> Result<List<Element>, Fault>
     requires { length bytes.now ≤ 1048576 }
     ensures tree { IfOk result (λ items. IsOlderTree bytes.now items) }
     ensures fault { IfErr result (RefusesAt (IsOlderFault bytes.now)) }
+    // A tree that was read is printable, unless a value or args end with a carriage return.
+    ensures printable { IfOk result (λ items. without_returns items ≡ true → Printable 1 items) }
     // Complete for trees: a file with a tree gives it, or out of memory.
     ensures exactly_trees { (items : List Element) → IsOlderTree bytes.now items →
         MatchResult result (λ found. found ≡ items) (RefusesAt (λ _ _. ⊥)) }
@@ -35,6 +39,7 @@ fn read_tree(alloc: Global, bytes: &[u8]) -> Result<List<Element>, Fault>
     requires { length bytes.now ≤ 1048576 }
     ensures tree { IfOk result (λ items. IsOlderTree bytes.now items) }
     ensures fault { IfErr result (RefusesAt (IsOlderFault bytes.now)) }
+    ensures printable { IfOk result (λ items. without_returns items ≡ true → Printable 1 items) }
 {
     match str::from_utf8(bytes) {
         Ok(text) => tree_of(alloc, text),
@@ -61,6 +66,7 @@ fn tree_of(alloc: Global, text: &str) -> Result<List<Element>, Fault>
     requires { length text.now < 2 ^ 32 - 1 }
     ensures tree { IfOk result (λ items. StandsFor (older_lines text.now) items) }
     ensures fault { IfErr result (RefusesAt (FirstFault (older_lines text.now))) }
+    ensures printable { IfOk result (λ items. without_returns items ≡ true → Printable 1 items) }
 {
     let kept = kept_lines(alloc, text)?;
     let lines = relaid(alloc, kept.as_slice())?;
