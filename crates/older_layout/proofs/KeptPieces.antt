@@ -21,9 +21,9 @@ use Rattle.text_grammar.proofs.Boundaries.{boundary_front, is_blank-ascii}
 use Rattle.older_layout.specs.declared.cut.Kind.{Kind}
 use Rattle.older_layout.specs.declared.state.State.{State}
 use Rattle.cabal_lexer.specs.Opening.{name_len}
-use Rattle.older_layout.specs.Cuts.{after_name, is_field, cut, uncommented, raised, first_piece}
+use Rattle.older_layout.specs.Cuts.{after_name, is_field, cut, uncommented, last_piece, first_piece}
 use Rattle.older_layout.specs.States.{in_values, goes_on, layout_field, in_layout, begun, closed, after}
-use Rattle.older_layout.specs.Relaid.{opens, begins_with_brace, inline, piece_text, piece_line, in_front, cut_up, pieces, behind, close_of, closers, item_line, whole_line, raised_line, laid, relaid_from}
+use Rattle.older_layout.specs.Relaid.{opens, begins_with_brace, inline, piece_text, piece_line, first_indent, in_front, cut_up, pieces, behind, close_of, closers, item_line, whole_line, raised_line, laid, relaid_from}
 use Rattle.older_layout.proofs.Cutting.{cut-boundary, cut-some}
 use Rattle.older_layout.proofs.Turns.{front-boundary}
 
@@ -156,18 +156,19 @@ raised-text x h = record {
 
 -- ---- pieces
 
-piece-at : (c : Bool) (kind : Kind) (text rest : List ℕ) → IsKeptText text → IsRest rest →
-    IsKeptText (piece_text (if c then raised text else record { kind = kind; text = text; raised = false; rest = rest }))
-    × IsRest (if c then raised text else record { kind = kind; text = text; raised = false; rest = rest }).rest
-unfolding raised
-piece-at true kind text rest t r = (raised-text text t, no-rest)
-piece-at false kind text rest t r = (t, r)
+piece-at : (c o : Bool) (kind : Kind) (text rest : List ℕ) → IsKeptText text → IsRest rest →
+    IsKeptText (piece_text (if c then last_piece o text else record { kind = kind; text = text; raised = false; rest = rest }))
+    × IsRest (if c then last_piece o text else record { kind = kind; text = text; raised = false; rest = rest }).rest
+unfolding last_piece
+piece-at true true kind text rest t r = (raised-text text t, no-rest)
+piece-at true false kind text rest t r = (t, no-rest)
+piece-at false o kind text rest t r = (t, r)
 
 piece-kept : (v o : Bool) (text : List ℕ) → IsRest text → 0 < length text → IsKeptText (piece_text (first_piece v o text)) × IsRest (first_piece v o text).rest
 unfolding first_piece
 piece-kept v o text r l =
     let b = cut-boundary text r.piece.utf8 v in
-    piece-at _ (cut v text).0 (trim_end (take (cut v text).1 text)) (uncommented (drop (cut v text).1 text)) (cut-text text (cut v text).1 r (cut-some v text l) l b) (rest-behind text (cut v text).1 r b)
+    piece-at _ o (cut v text).0 (trim_end (take (cut v text).1 text)) (uncommented (drop (cut v text).1 text)) (cut-text text (cut v text).1 r (cut-some v text l) l b) (rest-behind text (cut v text).1 r b)
 
 cut-kept : (n : ℕ) (o : Bool) (number at : ℕ) (state : State) (text : List ℕ) → IsRest text → KeptTexts (cut_up n o number at state text).0
 cut-kept zero o number at state text r = tt
@@ -212,7 +213,7 @@ field-some (b ∷ text) o v h = omega arith
 item-at : (c : Bool) (o : Bool) (state : State) (line : Line) → (not (in_values state) && layout_field line.text o) ≡ c → IsRest line.text →
     KeptTexts (if c then (line ∷ [], in_layout state line.indent) else pieces o state line).0
 item-at true o state line e r = (record { piece = r.piece; some = field-some line.text o (not (in_values state)) e; code = r.code }, tt)
-item-at false o state line e r = cut-kept (length line.text) o line.number line.indent state line.text r
+item-at false o state line e r = cut-kept (length line.text) o line.number (first_indent state line) state line.text r
 
 item-kept : (o : Bool) (state : State) (line : Line) → IsRest line.text → KeptTexts (item_line o state line).0
 unfolding item_line
@@ -224,7 +225,7 @@ whole-kept o state line r =
     kept-append (closers (length line.text) state line).0 _ c.0 (item-kept o (closers (length line.text) state line).1.0 (closers (length line.text) state line).1.1 c.1)
 
 raised-at : (c o : Bool) (state : State) (line : Line) → IsRest line.text → KeptTexts (if c then pieces o state line else whole_line o state line).0
-raised-at true o state line r = cut-kept (length line.text) o line.number line.indent state line.text r
+raised-at true o state line r = cut-kept (length line.text) o line.number (first_indent state line) state line.text r
 raised-at false o state line r = whole-kept o state line r
 
 raised-kept : (o : Bool) (state : State) (line : Line) → IsRest line.text → KeptTexts (raised_line o state line).0

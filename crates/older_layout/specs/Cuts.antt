@@ -5,7 +5,7 @@ use Rattle.plan_types.specs.Bytes.{is_blank, begins_with}
 use Rattle.cabal_lexer.specs.Lines.{trim, trim_start, trim_end, is_comment}
 use Rattle.cabal_lexer.specs.Opening.{name_len}
 use Rattle.older_layout.specs.declared.cut.Kind.{Kind}
-use Rattle.older_layout.specs.declared.cut.Kind.TheVariants.{Closes, OpensValues, OpensItems, Plain}
+use Rattle.older_layout.specs.declared.cut.Kind.TheVariants.{Closes, OpensValues, OpensItems, Awaits, Plain}
 
 -- ---- fields
 
@@ -80,15 +80,23 @@ pub record Piece : Type 0 where
   pub raised : Bool
   pub rest : List ℕ
 
--- a field or a section whose brace begins the next line
-unfoldable pub raised : List ℕ → Piece
-raised text = record { kind = if is_field text then OpensValues else OpensItems; text = text; raised = true; rest = [] }
+-- the kind of a last piece: a field or a section whose brace begins the next line, or a field whose value does
+abbrev pub last_kind : Bool → Bool → Kind
+last_kind true true = OpensValues
+last_kind false true = OpensItems
+last_kind true false = Awaits
+last_kind false false = Plain
+
+-- the last piece of a line: a field without a value, or the head of a section
+unfoldable pub last_piece : Bool → List ℕ → Piece
+last_piece opens text = record { kind = last_kind (is_field text) opens; text = text; raised = opens; rest = [] }
 
 -- whether a piece is other text
 abbrev pub is_plain : Kind → Bool
 is_plain Closes = false
 is_plain OpensValues = false
 is_plain OpensItems = false
+is_plain Awaits = false
 is_plain Plain = true
 
 -- The first piece of a text. The last piece of a line takes the brace that begins the next line.
@@ -96,5 +104,5 @@ unfoldable pub first_piece : Bool → Bool → List ℕ → Piece
 first_piece in_values opens text =
     let c = cut in_values text in
     let rest = uncommented (drop c.1 text) in
-    if opens && not in_values && is_plain c.0 && (length rest == 0) && not (has_value (trim_end (take c.1 text))) then raised (trim_end (take c.1 text))
+    if not in_values && is_plain c.0 && (length rest == 0) && not (has_value (trim_end (take c.1 text))) then last_piece opens (trim_end (take c.1 text))
     else record { kind = c.0; text = trim_end (take c.1 text); raised = false; rest = rest }

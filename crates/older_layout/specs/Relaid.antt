@@ -1,10 +1,10 @@
 -- The lines of a file, laid out again: each piece between braces on a line of its own.
-use Rattle.std.specs.Prelude.{ℕ, zero, suc, Bool, true, false, ◌&&◌, ◌||◌, not, List, [], ◌∷◌, ◌++◌, if◌then◌else◌, length, drop, min}
+use Rattle.std.specs.Prelude.{ℕ, zero, suc, ◌+◌, Bool, true, false, ◌&&◌, ◌||◌, not, List, [], ◌∷◌, ◌++◌, if◌then◌else◌, length, drop, min}
 use Rattle.plan_types.specs.Bytes.{begins_with}
 use Rattle.cabal_lexer.specs.Lines.{Line, indent}
 use Rattle.older_layout.specs.declared.state.State.{State}
 use Rattle.older_layout.specs.Cuts.{Piece, uncommented, first_piece}
-use Rattle.older_layout.specs.States.{start, in_values, goes_on, layout_field, in_layout, begun, closed, after}
+use Rattle.older_layout.specs.States.{start, in_values, awaits, goes_on, layout_field, in_layout, begun, closed, after}
 
 -- whether the next line begins with `{`
 abbrev pub opens : List Line → Bool
@@ -36,9 +36,13 @@ cut_up (suc n) opens number indent state (b ∷ text) =
     let piece = first_piece (in_values state) opens (b ∷ text) in
     in_front (piece_line number indent piece) (cut_up n opens number inline (after piece state) piece.rest)
 
+-- the indent of the first piece of a line; the value of the last piece is deeper than that piece
+abbrev pub first_indent : State → Line → ℕ
+first_indent state line = if awaits state.mode then inline + 1 else line.indent
+
 -- the pieces of a line
 abbrev pub pieces : Bool → State → Line → List Line × State
-pieces opens state line = cut_up (length line.text) opens line.number line.indent state line.text
+pieces opens state line = cut_up (length line.text) opens line.number (first_indent state line) state line.text
 
 -- ---- braces at the start of a line
 

@@ -1,6 +1,6 @@
 // The first piece of a text.
 ghost use Rattle.std.specs.Prelude.{◌≡◌, ◌∷◌, ◌<◌, ◌≤◌, [], true, false, length, drop};
-ghost use Rattle.older_layout.specs.Cuts.{ends_word, code_len, brace_len, close_len, after_name, is_field, value, has_value, field_cut, section_cut, item_cut, value_cut, cut, uncommented, raised, first_piece};
+ghost use Rattle.older_layout.specs.Cuts.{ends_word, code_len, brace_len, close_len, after_name, is_field, value, has_value, field_cut, section_cut, item_cut, value_cut, cut, uncommented, last_kind, last_piece, first_piece};
 ghost use Rattle.plan_types.specs.Bytes.{begins_with};
 
 use cabal_lexer::{is_comment, name_len, trim, trim_end, trim_start};
@@ -16,6 +16,8 @@ pub enum Kind {
     OpensValues,
     /// A section whose items are in braces. It ends with `{`.
     OpensItems,
+    /// A field whose value is on the next line.
+    Awaits,
     /// Other text.
     Plain,
 }
@@ -74,8 +76,8 @@ pub fn first_piece(text: &str, in_values: bool, opens: bool) -> Piece<'_>
     let (front, back) = text.split_at(length);
     let text = trim_end(front);
     let rest = after(back);
-    if opens && !in_values && kind == Kind::Plain && rest.is_empty() && !has_value(text) {
-        raised(text)
+    if !in_values && kind == Kind::Plain && rest.is_empty() && !has_value(text) {
+        last_piece(text, opens)
     } else {
         Piece {
             kind,
@@ -86,20 +88,27 @@ pub fn first_piece(text: &str, in_values: bool, opens: bool) -> Piece<'_>
     }
 }
 
-#[tactic(auto, unfolding(crate::specs::Cuts::raised))]
-fn raised(text: &str) -> Piece<'_>
-    ensures { result ≡ raised text.now }
+// The last piece of a line: a field without a value, or the head of a section.
+#[tactic(auto, unfolding(crate::specs::Cuts::last_piece))]
+fn last_piece(text: &str, opens: bool) -> Piece<'_>
+    ensures { result ≡ last_piece opens text.now }
 {
-    let kind = if is_field(text) {
-        Kind::OpensValues
-    } else {
-        Kind::OpensItems
-    };
     Piece {
-        kind,
+        kind: last_kind(is_field(text), opens),
         text,
-        raised: true,
+        raised: opens,
         rest: "",
+    }
+}
+
+fn last_kind(is_field: bool, opens: bool) -> Kind
+    ensures { result ≡ last_kind is_field opens }
+{
+    match (is_field, opens) {
+        (true, true) => Kind::OpensValues,
+        (false, true) => Kind::OpensItems,
+        (true, false) => Kind::Awaits,
+        (false, false) => Kind::Plain,
     }
 }
 

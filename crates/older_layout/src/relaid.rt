@@ -2,7 +2,7 @@
 ghost use Rattle.std.specs.Prelude.{◌≡◌, ◌+◌, ◌<◌, ◌^◌, ◌++◌, [], ◌∷◌, IfOk, OnOk, length, min};
 ghost use Rattle.plan_types.specs.Bytes.{begins_with};
 ghost use Rattle.cabal_lexer.specs.Lines.{indent};
-ghost use Rattle.older_layout.specs.Relaid.{begins_with_brace, opens, inline, piece_text, piece_line, pieces, behind, close_of, closers, item_line, raised_line, whole_line, laid, relaid};
+ghost use Rattle.older_layout.specs.Relaid.{begins_with_brace, opens, inline, piece_text, piece_line, first_indent, pieces, behind, close_of, closers, item_line, raised_line, whole_line, laid, relaid};
 
 use crate::cut::{Piece, after, first_piece};
 use crate::state::{State, layout_field};
@@ -241,7 +241,7 @@ fn push_pieces(
     ensures lines { OnOk result (found.new.items ≡ found.old.items ++ (pieces opens state line.now).0) }
     ensures state { IfOk result (λ after. after ≡ (pieces opens state line.now).1) }
 {
-    let mut indent = line.indent() as u32;
+    let mut indent = first_indent(state, line);
     let mut rest = line.text();
     let mut state = state;
     while !rest.is_empty() {
@@ -252,6 +252,16 @@ fn push_pieces(
         rest = piece.rest();
     }
     Ok(state)
+}
+
+fn first_indent(state: State, line: &Line) -> u32
+    ensures { result ≡ first_indent state line.now }
+{
+    if state.is_awaiting() {
+        INLINE + 1
+    } else {
+        line.indent() as u32
+    }
 }
 
 fn push_piece(

@@ -2,7 +2,7 @@
 ghost use Rattle.std.specs.Prelude.{◌≡◌, false, true};
 ghost use Rattle.plan_types.specs.Bytes.{begins_with};
 ghost use Rattle.older_layout.specs.Cuts.{is_field, value};
-ghost use Rattle.older_layout.specs.States.{opened, mode_after, after, goes_on, begun, closed, in_layout, in_values, start, layout_field};
+ghost use Rattle.older_layout.specs.States.{opened, mode_after, mode_after_text, begun_mode, awaits, after, goes_on, begun, closed, in_layout, in_values, start, layout_field};
 
 use crate::cut::{Kind, Piece, after, has_value, is_field, value};
 use cabal_lexer::Line;
@@ -17,6 +17,8 @@ pub enum Mode {
     Layout { indent: usize },
     /// It is between the braces of a field.
     Values,
+    /// It begins with the value of the last piece, unless it begins with `}`.
+    Value,
 }
 
 /// The number of open braces, what the next line is, and whether its first brace is the end of the last piece.
@@ -48,6 +50,7 @@ impl State {
             Mode::Layout { indent } => indent < line.indent() && !(0 < self.braces && line.closes()),
             Mode::Items => false,
             Mode::Values => false,
+            Mode::Value => false,
         }
     }
 
@@ -69,7 +72,7 @@ impl State {
     {
         State {
             braces: self.braces,
-            mode: if self.in_values() { Mode::Values } else { Mode::Items },
+            mode: begun_mode(self.mode),
             raised: false,
         }
     }
@@ -81,6 +84,19 @@ impl State {
     {
         match self.mode {
             Mode::Values => true,
+            Mode::Value => true,
+            Mode::Items => false,
+            Mode::Layout { .. } => false,
+        }
+    }
+
+    /// Whether the next piece is the value of the last one.
+    pub fn is_awaiting(&self) -> bool
+        ensures { result ≡ awaits self.now.mode }
+    {
+        match self.mode {
+            Mode::Value => true,
+            Mode::Values => false,
             Mode::Items => false,
             Mode::Layout { .. } => false,
         }
@@ -123,6 +139,7 @@ fn opened(kind: Kind, braces: u32) -> u32
         Kind::Closes => braces.saturating_sub(1),
         Kind::OpensValues => braces.saturating_add(1),
         Kind::OpensItems => braces.saturating_add(1),
+        Kind::Awaits => braces,
         Kind::Plain => braces,
     }
 }
@@ -134,7 +151,30 @@ fn mode_after(kind: Kind, mode: Mode) -> Mode
         Kind::Closes => Mode::Items,
         Kind::OpensValues => Mode::Values,
         Kind::OpensItems => Mode::Items,
-        Kind::Plain => mode,
+        Kind::Awaits => Mode::Value,
+        Kind::Plain => mode_after_text(mode),
+    }
+}
+
+fn mode_after_text(mode: Mode) -> Mode
+    ensures { result ≡ mode_after_text mode }
+{
+    match mode {
+        Mode::Value => Mode::Items,
+        Mode::Values => Mode::Values,
+        Mode::Items => Mode::Items,
+        Mode::Layout { indent } => Mode::Layout { indent },
+    }
+}
+
+fn begun_mode(mode: Mode) -> Mode
+    ensures { result ≡ begun_mode mode }
+{
+    match mode {
+        Mode::Value => Mode::Value,
+        Mode::Values => Mode::Values,
+        Mode::Items => Mode::Items,
+        Mode::Layout { .. } => Mode::Items,
     }
 }
 
