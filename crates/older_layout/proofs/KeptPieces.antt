@@ -6,15 +6,14 @@ use Rattle.std.specs.Str.{IsUtf8, IsCharBoundary}
 use Rattle.std.proofs.Math.Bool.{and-false}
 use Rattle.std.proofs.Math.Seq.{take-append_seam}
 use Rattle.std.proofs.lemmas.Bool.{cases_lt}
-use Rattle.std.proofs.lemmas.Bool.Decides.{nat_tests}
-use Rattle.std.proofs.lemmas.List.{reverse-append, take-append-drop, length-take-le, get_or-reverse, length-reverse}
+use Rattle.std.proofs.lemmas.List.{reverse-append, take-append-drop, length-take-le, get_or-reverse}
 use Rattle.std.proofs.lemmas.List.Elements.{All-take, All-drop, All-cons, All-nil}
 use Rattle.std.proofs.lemmas.List.Sums.{prefix_len_passes}
 use Rattle.std.proofs.lemmas.Str.{IsUtf8-take, IsUtf8-drop, IsUtf8-nil}
 use Rattle.plan_types.specs.Bytes.{is_blank, begins_with}
 use Rattle.cabal_lexer.specs.Lines.{Line, indent, trim_start, trim_end, is_comment}
 use Rattle.cabal_lexer.specs.Printable.{OneLine, Piece, IsKeptText}
-use Rattle.cabal_lexer.proofs.Texts.{trim_end-take, trailing-le}
+use Rattle.cabal_lexer.proofs.Texts.{trim_end-take}
 use Rattle.cabal_lexer.proofs.TextPieces.{Piece-trim_end, Piece-join, front-take, front-drop}
 use Rattle.cabal_lexer.proofs.Again.{KeptTexts}
 use Rattle.text_grammar.proofs.Boundaries.{boundary_front, is_blank-ascii}
@@ -23,7 +22,7 @@ use Rattle.older_layout.specs.declared.state.State.{State}
 use Rattle.cabal_lexer.specs.Opening.{name_len}
 use Rattle.older_layout.specs.Cuts.{after_name, is_field, cut, uncommented, last_piece, first_piece}
 use Rattle.older_layout.specs.States.{in_values, goes_on, layout_field, in_layout, begun, closed, after}
-use Rattle.older_layout.specs.Relaid.{opens, begins_with_brace, inline, piece_text, piece_line, first_indent, in_front, cut_up, pieces, behind, close_of, closers, item_line, whole_line, raised_line, laid, relaid_from}
+use Rattle.older_layout.specs.Relaid.{opens, begins_with_brace, inline, piece_text, first_indent, in_front, cut_up, pieces, behind, close_of, closers, item_line, whole_line, raised_line, laid, relaid_from}
 use Rattle.older_layout.proofs.Cutting.{cut-boundary, cut-some}
 use Rattle.older_layout.proofs.Turns.{front-boundary}
 

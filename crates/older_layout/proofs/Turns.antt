@@ -50,12 +50,14 @@ pub next-close : (n : ℕ) (state : State) (rest : Line) (found all : List Line)
 next-close zero state rest found all last e shorter h = let le = h.0 in absurd (omega arith)
 next-close (suc n) state rest found all last e shorter h =
     let le = h.0 in
-    let one = close-at n (begins_with 125 rest.text) state rest e in
-    (n, (
-      omega arith,
-      append_assoc found (close_of rest ∷ []) (closers n (closed state) (behind rest)).0 ∙ ap (λ (v : List Line × (State × Line)). found ++ v.0) (sym one) ∙ h.1,
-      ap (λ (v : List Line × (State × Line)). v.1) (sym one) ∙ h.2,
-    ))
+    let one = close-at n (begins_with 125 rest.text) state rest e in (
+      n,
+      (
+        omega arith,
+        append_assoc found (close_of rest ∷ []) (closers n (closed state) (behind rest)).0 ∙ ap (λ (v : List Line × (State × Line)). found ++ v.0) (sym one) ∙ h.1,
+        ap (λ (v : List Line × (State × Line)). v.1) (sym one) ∙ h.2,
+      ),
+    )
 
 -- what follows a brace is shorter
 behind-at : (b : Bool) (number n k : ℕ) (text : List ℕ) (line : Line) → b ≡ true → length (uncommented (drop 1 text)) < k →

@@ -1,5 +1,5 @@
 -- The pieces of a line: a line is cut at its braces.
-use Rattle.std.specs.Prelude.{ℕ, ◌+◌, Bool, true, false, ◌&&◌, ◌||◌, not, List, [], ◌∷◌, ◌++◌, ◌==◌, if◌then◌else◌, length, take, drop, nat_lt}
+use Rattle.std.specs.Prelude.{ℕ, ◌+◌, Bool, true, false, ◌&&◌, ◌||◌, not, List, [], ◌∷◌, ◌==◌, if◌then◌else◌, length, take, drop, nat_lt}
 use Rattle.std.specs.List.{prefix_len}
 use Rattle.plan_types.specs.Bytes.{is_blank, begins_with}
 use Rattle.cabal_lexer.specs.Lines.{trim, trim_start, trim_end, is_comment}

@@ -2,3 +2,4 @@ pub mod Cuts
 pub mod States
 pub mod Relaid
 pub mod OlderTree
+pub mod Examples

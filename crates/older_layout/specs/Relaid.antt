@@ -1,5 +1,5 @@
 -- The lines of a file, laid out again: each piece between braces on a line of its own.
-use Rattle.std.specs.Prelude.{ℕ, zero, suc, ◌+◌, Bool, true, false, ◌&&◌, ◌||◌, not, List, [], ◌∷◌, ◌++◌, if◌then◌else◌, length, drop, min}
+use Rattle.std.specs.Prelude.{ℕ, zero, suc, ◌+◌, Bool, false, ◌&&◌, ◌||◌, not, List, [], ◌∷◌, ◌++◌, if◌then◌else◌, length, drop, min}
 use Rattle.plan_types.specs.Bytes.{begins_with}
 use Rattle.cabal_lexer.specs.Lines.{Line, indent}
 use Rattle.older_layout.specs.declared.state.State.{State}

@@ -1,5 +1,5 @@
 -- The state between two pieces.
-use Rattle.std.specs.Prelude.{ℕ, ◌+◌, ◌-◌, ◌^◌, Bool, true, false, ◌&&◌, ◌||◌, not, List, ◌==◌, if◌then◌else◌, length, min, nat_lt}
+use Rattle.std.specs.Prelude.{ℕ, ◌+◌, ◌-◌, ◌^◌, Bool, true, false, ◌&&◌, not, List, ◌==◌, length, min, nat_lt}
 use Rattle.plan_types.specs.Bytes.{begins_with}
 use Rattle.cabal_lexer.specs.Lines.{Line}
 use Rattle.cabal_lexer.specs.Layout.{closes}

@@ -119,7 +119,11 @@ pub fn after(text: &str) -> &str
     ensures within { length result.now ≤ length text.now }
 {
     let text = trim_start(text);
-    if is_comment(text.as_bytes()) { "" } else { text }
+    if is_comment(text.as_bytes()) {
+        ""
+    } else {
+        text
+    }
 }
 
 // The kind and the length of the first piece.

@@ -47,7 +47,8 @@ impl State {
         ensures { result ≡ goes_on self.now line.now }
     {
         match self.mode {
-            Mode::Layout { indent } => indent < line.indent() && !(0 < self.braces && line.closes()),
+            Mode::Layout { indent } => indent < line.indent()
+                && !(0 < self.braces && line.closes()),
             Mode::Items => false,
             Mode::Values => false,
             Mode::Value => false,

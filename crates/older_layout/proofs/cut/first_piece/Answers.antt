@@ -1,6 +1,6 @@
 use Rattle.std.proofs.Common.{◌∙◌, ap, sym, subst, length, drop, arith}
 use Rattle.std.specs.Str.{IsCharBoundary}
-use Rattle.older_layout.specs.Cuts.{Piece, cut, uncommented, last_piece}
+use Rattle.older_layout.specs.Cuts.{Piece, uncommented, last_piece}
 use Rattle.older_layout.proofs.Cutting.{length_of, cut-boundary, rest-shorter}
 use Rattle.older_layout.proofs.cut.first_piece.Goals as goal
 

@@ -1,4 +1,4 @@
-use Rattle.std.proofs.Common.{◌≡◌, ◌∙◌, ap, subst}
+use Rattle.std.proofs.Common.{◌∙◌, ap, subst}
 use Rattle.std.specs.Result.{IfOk}
 use Rattle.cabal_lexer.specs.Fault.{StandsFor}
 use Rattle.older_layout.specs.Relaid.{relaid}

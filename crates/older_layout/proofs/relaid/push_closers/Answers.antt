@@ -1,8 +1,7 @@
-use Rattle.std.proofs.Common.{◌≡◌, ◌<◌, true, [], ◌∷◌, ◌++◌, length, sym, ◌∙◌, ap, subst}
+use Rattle.std.proofs.Common.{◌<◌, length, sym, ◌∙◌, ap, subst}
 use Rattle.plan_types.specs.Bytes.{begins_with}
 use Rattle.cabal_lexer.specs.Lines.{Line}
-use Rattle.older_layout.specs.Relaid.{close_of}
-use Rattle.older_layout.proofs.Turns.{Closes, next-close, behind-shorter}
+use Rattle.older_layout.proofs.Turns.{next-close, behind-shorter}
 use Rattle.older_layout.proofs.relaid.push_closers.Goals as goal
 
 pub loop-alloc-smaller : goal.loop-alloc-smaller
