@@ -2,4 +2,4 @@ pub mod Cutting
 pub mod Turns
 pub mod KeptPieces
 pub mod OneOlderTree
-pub mod Latin1
+pub mod Decoding

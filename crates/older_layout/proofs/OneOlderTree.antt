@@ -4,7 +4,7 @@ use Rattle.std.specs.Result.{IfOk, IfErr, MatchResult}
 use Rattle.std.specs.declared.result.Result.{Result}
 use Rattle.std.specs.declared.result.Result.TheVariants.{Ok, Err}
 use Rattle.std.specs.Prelude.{if◌then◌else◌}
-use Rattle.std.specs.Str.{IsUtf8, is_utf8, encode_utf8_all}
+use Rattle.std.specs.Str.{IsUtf8, is_utf8, chars}
 use Rattle.std.proofs.lemmas.Str.{is_utf8-from_IsUtf8, IsUtf8-from_is_utf8}
 use Rattle.plan_types.specs.declared.element.Element.{Element}
 use Rattle.plan_types.specs.declared.refusal.Cause.{Cause}
@@ -20,7 +20,7 @@ use Rattle.cabal_lexer.proofs.Again.{printable-items}
 use Rattle.cabal_lexer.proofs.RoundTrip.{kept_lines-texts}
 use Rattle.older_layout.specs.States.{start}
 use Rattle.older_layout.proofs.KeptPieces.{relaid-kept}
-use Rattle.older_layout.specs.OlderTree.{decoded, older_lines, IsOlderTree, IsOlderFault}
+use Rattle.older_layout.specs.OlderTree.{characters, decoded, older_lines, IsOlderTree, IsOlderFault}
 
 pub one_tree : (bytes : List ℕ) (a b : List Element) → IsOlderTree bytes a → IsOlderTree bytes b → a ≡ b
 one_tree bytes a b s t = lines.one_items (older_lines (decoded bytes)) s t
@@ -47,17 +47,17 @@ fault_found bytes (Err (faults.At at why)) tree fault line cause f = one_fault b
 
 -- ---- the text of a file
 
-pub decoded-utf8 : (bytes : List ℕ) → IsUtf8 bytes → bytes ≡ decoded bytes
-unfolding decoded
-decoded-utf8 bytes u = sym (ap (λ b. if b then bytes else encode_utf8_all bytes) (is_utf8-from_IsUtf8 bytes u))
+pub characters-utf8 : (bytes : List ℕ) → IsUtf8 bytes → chars bytes ≡ characters bytes
+unfolding characters
+characters-utf8 bytes u = sym (ap (λ b. if b then chars bytes else bytes) (is_utf8-from_IsUtf8 bytes u))
 
-not-utf8 : (bytes : List ℕ) (b : Bool) → is_utf8 bytes ≡ b → (IsUtf8 bytes → ⊥) → encode_utf8_all bytes ≡ (if b then bytes else encode_utf8_all bytes)
+not-utf8 : (bytes : List ℕ) (b : Bool) → is_utf8 bytes ≡ b → (IsUtf8 bytes → ⊥) → bytes ≡ (if b then chars bytes else bytes)
 not-utf8 bytes true e other = absurd (other (IsUtf8-from_is_utf8 bytes e))
 not-utf8 bytes false e other = refl
 
-pub decoded-latin1 : (bytes : List ℕ) → (IsUtf8 bytes → ⊥) → encode_utf8_all bytes ≡ decoded bytes
-unfolding decoded
-decoded-latin1 bytes other = not-utf8 bytes (is_utf8 bytes) refl other
+pub characters-latin1 : (bytes : List ℕ) → (IsUtf8 bytes → ⊥) → bytes ≡ characters bytes
+unfolding characters
+characters-latin1 bytes other = not-utf8 bytes (is_utf8 bytes) refl other
 
 module _ (bytes text : List ℕ) (same : text ≡ decoded bytes) (r : Result (List Element) Fault) where
   pub tree-from : IfOk r (λ items. StandsFor (older_lines text) items) → IfOk r (λ items. IsOlderTree bytes items)

@@ -1,13 +1,13 @@
 // The tree of a file.
 ghost use Rattle.std.specs.Prelude.{◌≡◌, ◌≤◌, ◌<◌, ◌-◌, ◌*◌, ◌^◌, ℕ, List, true, length, IfOk, IfErr, MatchResult};
-ghost use Rattle.std.specs.Str.{encode_utf8_all};
+ghost use Rattle.std.specs.Str.{chars};
 ghost use Rattle.plan_types.specs.declared.element.Element.{Element};
 ghost use Rattle.plan_types.specs.declared.refusal.Cause.{Cause};
 ghost use Rattle.plan_types.specs.Refusal.{RefusesAt};
 ghost use Rattle.cabal_lexer.specs.Fault.{StandsFor, FirstFault};
 ghost use Rattle.cabal_lexer.specs.Printable.{Printable};
 ghost use Rattle.cabal_lexer.specs.RoundTrip.{without_returns};
-ghost use Rattle.older_layout.specs.OlderTree.{older_lines, IsOlderTree, IsOlderFault};
+ghost use Rattle.older_layout.specs.OlderTree.{plain, plain_text, decoded, older_lines, IsOlderTree, IsOlderFault};
 
 use crate::relaid::{borrowed, relaid};
 use cabal_lexer::{items_of, kept_lines};
@@ -17,7 +17,7 @@ use std::str;
 
 /// The tree of a file in the older layout, or its first fault.
 ///
-/// Bytes that aren't UTF-8 are read as Latin-1. The fault is on the least line. `UnclosedBrace` comes only if there is
+/// Bytes that aren't UTF-8 are read as Latin-1, and U+00A0 as a space. The fault is on the least line. `UnclosedBrace` comes only if there is
 /// no other fault.
 pub fn read_older(alloc: Global, bytes: &[u8]) -> Result<List<Element>, Fault>
     requires { length bytes.now ≤ 1048576 }
@@ -41,25 +41,48 @@ fn read_tree(alloc: Global, bytes: &[u8]) -> Result<List<Element>, Fault>
     ensures fault { IfErr result (RefusesAt (IsOlderFault bytes.now)) }
     ensures printable { IfOk result (λ items. without_returns items ≡ true → Printable 1 items) }
 {
+    let text = decoded(alloc, bytes)?;
+    tree_of(alloc, text.as_str())
+}
+
+// The text of a file.
+fn decoded(alloc: Global, bytes: &[u8]) -> Result<Text, NoMemory>
+    ensures value { IfOk result (λ text. text ≡ decoded bytes.now) }
+    ensures bound { IfOk result (λ text. length text ≤ 4 * length bytes.now) }
+{
     match str::from_utf8(bytes) {
-        Ok(text) => tree_of(alloc, text),
-        Err(_) => {
-            let text = from_latin1(alloc, bytes)?;
-            tree_of(alloc, text.as_str())
-        }
+        Ok(text) => from_utf8(alloc, text),
+        Err(_) => from_latin1(alloc, bytes),
     }
+}
+
+fn from_utf8(alloc: Global, text: &str) -> Result<Text, NoMemory>
+    ensures value { IfOk result (λ found. found ≡ plain_text (chars text.now)) }
+    ensures bound { IfOk result (λ found. length found ≤ 4 * length text.now) }
+{
+    let mut string = String::new(alloc);
+    for character in text.chars() {
+        string.push(plain(character))?;
+    }
+    Ok(Text::from_string(string))
 }
 
 // The text of bytes in Latin-1.
 fn from_latin1(alloc: Global, bytes: &[u8]) -> Result<Text, NoMemory>
-    ensures value { IfOk result (λ text. text ≡ encode_utf8_all bytes.now) }
+    ensures value { IfOk result (λ text. text ≡ plain_text bytes.now) }
     ensures bound { IfOk result (λ text. length text ≤ 4 * length bytes.now) }
 {
     let mut string = String::new(alloc);
     for byte in bytes {
-        string.push(char::from(*byte))?;
+        string.push(plain(char::from(*byte)))?;
     }
     Ok(Text::from_string(string))
+}
+
+fn plain(character: char) -> char
+    ensures { result ≡ plain character }
+{
+    if character == '\u{a0}' { ' ' } else { character }
 }
 
 fn tree_of(alloc: Global, text: &str) -> Result<List<Element>, Fault>
