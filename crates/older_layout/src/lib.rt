@@ -9,7 +9,7 @@
 //! - At most 64 sections are open at once.
 //! - A `}` alone on a line closes a brace, even where it is deeper than the field before it.
 //! - A brace in a quoted string is a brace. A byte-order mark is passed over only in a file in UTF-8.
-//! - A carriage return ends a line only before a line feed, and U+00A0 is no blank.
+//! - A carriage return ends a line only before a line feed, and U+00A0 is read as a space everywhere.
 //! - Behind the brace of a field's values, `--` begins a comment. Between those braces, `{` is text.
 //! - A section behind a brace on its line needs no braces.
 #![tactic(auto)]

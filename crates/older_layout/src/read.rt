@@ -82,7 +82,11 @@ fn from_latin1(alloc: Global, bytes: &[u8]) -> Result<Text, NoMemory>
 fn plain(character: char) -> char
     ensures { result ≡ plain character }
 {
-    if character == '\u{a0}' { ' ' } else { character }
+    if character == '\u{a0}' {
+        ' '
+    } else {
+        character
+    }
 }
 
 fn tree_of(alloc: Global, text: &str) -> Result<List<Element>, Fault>
