@@ -1,4 +1,4 @@
--- A tree's canonical text parses as the tree.
+-- Shared: the canonical text of a printable tree parses as the tree, and trees that are printable.
 use Rattle.std.proofs.Common.{◌≡◌, ℕ, zero, suc, ◌+◌, ◌-◌, ◌<◌, inl, inr, Bool, true, false, List, [], ◌∷◌, ◌++◌, length, take, drop, get_or, refl, sym, ◌∙◌, ap, subst, arith, length-drop}
 use Rattle.std.specs.Prelude.{not, ◌==◌, nat_eq, if◌then◌else◌}
 use Rattle.std.specs.List.{list_all, slice_split, starts_with, position_or_len, before_first, after_first}

@@ -1,4 +1,4 @@
--- Texts: their character boundaries and their lines.
+-- Shared: texts: their character boundaries and their lines.
 use Rattle.std.proofs.Common.{◌≡◌, ℕ, zero, suc, ◌+◌, ◌-◌, ◌<◌, ◌≤◌, Bool, true, false, cond, List, [], ◌∷◌, ◌++◌, length, take, drop, get_or, refl, sym, ◌∙◌, ap, subst, arith, append_assoc, append-nil, length-drop}
 use Rattle.std.specs.Prelude.{reverse, map, ◌==◌, nat_eq}
 use Rattle.std.specs.Borrow.{Bor}
