@@ -1,11 +1,14 @@
 """Reads the elements of a `.cabal` or project file as cabal does, older forms too.
 
-In: the text of a file. Out: its fields and sections as a tree, and its forms that the planner doesn't read."""
+In: the text of a file. Out: its fields and sections as a tree, each with its line, the entries of a field with theirs,
+and the forms of the file that the planner doesn't read."""
 
 import re
 
 NAME = re.compile(r"[A-Za-z0-9_.-]*[A-Za-z][A-Za-z0-9_.-]*")
 BLANK = " \t"
+ENTRY_MARKS, NAME_MARKS = re.compile(r"[{},]"), re.compile(r"[,\s]+")
+COLON, BRACE = re.compile(r"[ \t]*"), re.compile(r"[{}]")
 # The forms that the planner doesn't read.
 ONE_LINE = "braces on one line"
 OWN_LINE = "an opening brace on a line of its own"
@@ -23,10 +26,11 @@ class Misread(Exception):
 
 
 class Field:
-    """A field: its name in lower case, its values, one a line, and the line of the field."""
+    """A field: its name in lower case, its values, one a line, the line of the field, and the line of each value."""
 
-    def __init__(self, name, values, line=0):
+    def __init__(self, name, values, line=0, lines=None):
         self.name, self.values, self.line = name, values, line
+        self.lines = lines if lines is not None else [line] * len(values)
 
     def text(self):
         return " ".join(self.values)
@@ -53,9 +57,17 @@ class Reader:
     def is_over(self):
         return self.at >= len(self.lines)
 
+    def text(self):
+        """Returns the line, without the blanks in front of it."""
+        return "" if self.is_over() else self.lines[self.at][2]
+
     def rest(self):
         """Returns the rest of the line."""
-        return "" if self.is_over() else self.lines[self.at][2][self.col :]
+        return self.text()[self.col :]
+
+    def has(self, mark):
+        """Returns whether this mark comes next."""
+        return self.text().startswith(mark, self.col)
 
     def number(self):
         return self.lines[min(self.at, len(self.lines) - 1)][0] if self.lines else 1
@@ -66,14 +78,12 @@ class Reader:
     def is_at_start(self):
         return self.col == 0
 
-    def skip(self, count):
-        """Moves on by so many bytes and the blanks behind them; at the end of a line to the next one."""
-        text = self.lines[self.at][2]
-        self.col += count
-        while self.col < len(text) and text[self.col] in BLANK:
-            self.col += 1
-        if self.col >= len(text):
-            self.at, self.col = self.at + 1, 0
+    def skip_to(self, col):
+        """Moves on to this offset and behind the blanks there; at the end of a line to the next one."""
+        text = self.text()
+        while col < len(text) and text[col] in BLANK:
+            col += 1
+        self.at, self.col = (self.at, col) if col < len(text) else (self.at + 1, 0)
 
     def elements(self, least, is_braced, depth):
         """Returns the elements of at least this indent, in braces up to the closing one."""
@@ -81,7 +91,7 @@ class Reader:
         if depth > TOO_DEEP:
             raise Misread(self.number(), "sections too deep")
         while not self.is_over():
-            if self.rest().startswith("}"):
+            if self.has("}"):
                 if self.open:
                     return found
                 raise Misread(self.number(), "a brace that closes nothing")
@@ -96,23 +106,27 @@ class Reader:
         """Returns one field or section."""
         line, is_inline = self.number(), not self.is_at_start()
         indent = 0 if is_inline else self.indent()
-        named = NAME.match(self.rest())
+        named = NAME.match(self.text(), self.col)
         if not named:
             raise Misread(line, "a line without a name")
-        after = self.rest()[named.end() :].lstrip(BLANK)
-        if after.startswith(":"):
-            at = self.rest().index(":") + 1
-            return Field(named[0].lower(), self.values(at, indent, is_inline), line)
+        at = COLON.match(self.text(), named.end()).end()
+        if self.text().startswith(":", at):
+            return Field(named[0].lower(), *self.values(at + 1, indent, is_inline, line))
         return self.section(named[0].lower(), named.end(), indent, is_inline, depth)
 
-    def section(self, name, count, indent, is_inline, depth):
-        """Returns a section whose name has so many bytes."""
-        line, text = self.number(), self.rest()
-        end = min((at for at in (text.find("{", count), text.find("}", count)) if at >= 0), default=len(text))
-        args = text[count:end].strip(BLANK)
-        self.skip(end)
-        is_own = self.is_at_start() and not self.is_over() and self.rest().startswith("{")
-        if not self.rest().startswith("{") or (self.is_at_start() and not is_own):
+    def brace(self, col):
+        """Returns the offset of the first brace behind this one, or of the line's end."""
+        found = BRACE.search(self.text(), col)
+        return found.start() if found else len(self.text())
+
+    def section(self, name, col, indent, is_inline, depth):
+        """Returns a section whose name ends at this offset."""
+        line, text = self.number(), self.text()
+        end = self.brace(col)
+        args = text[col:end].strip(BLANK)
+        self.skip_to(end)
+        is_own = self.is_at_start() and self.has("{")
+        if not self.has("{") or (self.is_at_start() and not is_own):
             if is_inline:
                 raise Misread(line, "a section on one line without braces")
             return Section(name, args, self.elements(indent + 1, False, depth + 1), line)
@@ -123,7 +137,7 @@ class Reader:
     def braced(self, depth):
         """Returns the elements between braces, the first of which comes next."""
         opened = self.at
-        self.skip(1)
+        self.skip_to(self.col + 1)
         self.forms |= {ONE_LINE} if self.at == opened else set()
         self.open += 1
         found = self.elements(0, True, depth + 1)
@@ -135,57 +149,91 @@ class Reader:
         """Moves on behind a closing brace."""
         alone = self.is_at_start()
         at = self.at
-        self.skip(1)
+        self.skip_to(self.col + 1)
         if not alone or self.at == at:
             self.forms.add(BEHIND)
 
-    def values(self, count, indent, is_inline):
-        """Returns the values of a field whose colon is the last of so many bytes."""
+    def values(self, col, indent, is_inline, line):
+        """Returns the values of a field whose colon ends at this offset, the line of the field, and those of its values."""
         at = self.at
-        self.skip(count)
+        self.skip_to(col)
         is_next = self.at != at
-        if not self.is_over() and self.rest().startswith("{"):
-            return self.braced_values(is_next)
-        if is_inline:
-            return self.inline_value() if not is_next else []
-        found = []
-        if not is_next:
-            found.append(self.rest())
-            self.at, self.col = self.at + 1, 0
-        while not self.is_over() and self.indent() > indent and not (self.open and self.rest().startswith("}")):
-            found.append(self.rest())
-            self.at += 1
-        return found
+        found, lines = [], []
+        if self.has("{"):
+            self.braced_values(is_next, found, lines)
+        elif is_inline:
+            self.inline_value(found, lines) if not is_next else None
+        else:
+            if not is_next:
+                self.take(found, lines)
+            while not self.is_over() and self.indent() > indent and not (self.open and self.has("}")):
+                self.take(found, lines)
+        return found, line, lines
 
-    def inline_value(self):
-        """Returns the value of a field behind a brace in its line: up to the next brace or the line's end."""
-        text = self.rest()
-        end = min((at for at in (text.find("{"), text.find("}")) if at >= 0), default=len(text))
-        self.skip(end)
-        return [text[:end].strip(BLANK)] if text[:end].strip(BLANK) else []
+    def take(self, found, lines):
+        """Takes the rest of the line as a value."""
+        found.append(self.rest())
+        lines.append(self.number())
+        self.at, self.col = self.at + 1, 0
 
-    def braced_values(self, is_next):
-        """Returns the values of a field between braces."""
-        line, found = self.number(), []
+    def take_to(self, end, found, lines):
+        """Takes the text up to this offset as a value, if there is any, and moves on to it."""
+        if value := self.text()[self.col : end].strip(BLANK):
+            found.append(value)
+            lines.append(self.number())
+        self.skip_to(end)
+
+    def inline_value(self, found, lines):
+        """Takes the value of a field behind a brace in its line: up to the next brace or the line's end."""
+        self.take_to(self.brace(self.col), found, lines)
+
+    def braced_values(self, is_next, found, lines):
+        """Takes the values of a field between braces."""
+        line = self.number()
         is_plain = self.rest() == "{" and not is_next
-        self.skip(1)
-        while not self.is_over() and "}" not in self.rest():
-            found.append(self.rest())
-            self.at, self.col = self.at + 1, 0
+        self.skip_to(self.col + 1)
+        while not self.is_over() and self.text().find("}", self.col) < 0:
+            self.take(found, lines)
         if self.is_over():
             raise Misread(line, "a brace that nothing closes")
-        text = self.rest()
-        end = text.index("}")
-        found += [text[:end].strip(BLANK)] if text[:end].strip(BLANK) else []
-        self.forms |= set() if is_plain and text == "}" else {FIELD_BRACES}
-        self.skip(end + 1)
-        return found
+        end = self.text().index("}", self.col)
+        self.forms |= set() if is_plain and self.rest() == "}" else {FIELD_BRACES}
+        self.take_to(end, found, lines)
+        self.skip_to(end + 1)
 
 
 def elements(text):
     """Returns the elements of a text, and its forms that the planner doesn't read."""
     reader = Reader(text)
     return reader.elements(0, False, 0), reader.forms
+
+
+def split(field, is_braced):
+    """Yields the parts of a field's entries: for each entry the texts of its lines with these lines. It ends at a comma,
+    outside of braces if `is_braced`."""
+    parts, depth = [], 0
+    for value, line in zip(field.values, field.lines):
+        start = 0
+        for it in ENTRY_MARKS.finditer(value):
+            depth = depth + 1 if it[0] == "{" else max(0, depth - 1) if it[0] == "}" else depth
+            if it[0] == "," and not (is_braced and depth):
+                yield [*parts, (value[start : it.start()].strip(), line)]
+                parts, start = [], it.end()
+        parts.append((value[start:].strip(), line))
+    yield parts
+
+
+def entries(field):
+    """Returns the entries of a field between commas, each as one text with the line where it begins. Lines of an entry are
+    joined by a blank. A comma in braces ends no entry, if all braces are closed. Empty entries are left out."""
+    text = field.text()
+    told = [[it for it in entry if it[0]] for entry in split(field, text.count("{") == text.count("}"))]
+    return [(" ".join(text for text, _ in entry), entry[0][1]) for entry in told if entry]
+
+
+def names(field):
+    """Returns the names in a field between blanks and commas, each with its line."""
+    return [(it, line) for value, line in zip(field.values, field.lines) for it in NAME_MARKS.split(value) if it]
 
 
 def printed(items, depth=0):
