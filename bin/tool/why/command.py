@@ -29,11 +29,11 @@ def words_of(words):
     return parser.parse_args(words)
 
 
-def checked(planning):
+def checked(planning, name="why"):
     """Says which of the words to plan with have no reading, and returns whether all have one."""
     found = [text for _, text in wrong(["plan", *planning])]
     for text in found:
-        say("cabal-plan why", text)
+        say(f"cabal-plan {name}", text)
     return not found
 
 

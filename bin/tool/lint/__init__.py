@@ -1,0 +1,1 @@
+"""What both planners pass over in silence in the project's own files."""
