@@ -47,7 +47,7 @@ class Chain:
         self.left = {it.text: [one for one in facts.candidates[it.package] if not one.why_not] for it in facts.packages}
         self.asks = {}
         for owner, target, one, ask in facts.asks:
-            if not ask.flags() and not ask.component.startswith(("test-suite", "benchmark")):
+            if one.description is None or (owner.text, ask) in facts.certain:
                 self.asks.setdefault(owner.text, {}).setdefault(target, {}).setdefault(one, []).append(ask)
         self.required = {it.text for it in facts.packages if not it.qualifier and it.package in facts.folder.local}
         self.extra = {it.text: told for it in facts.packages for told in [facts.extras(it)] if told}

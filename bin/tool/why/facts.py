@@ -6,8 +6,8 @@ their places. It is all read off the files, and decides nothing."""
 import difflib
 import re
 
-from tool.folder.conditions import Platform, value
 from tool.names import is_name
+from tool.why.force import Machine, flags_in
 from tool.why.packages import Ask, Description, ENTRY
 from tool.why.project import Project
 from tool.why.ranges import version as numbers_of
@@ -16,7 +16,8 @@ from tool.why.texts import items_of, listed, text_of
 NAME = re.compile(r"((?:[\w-]+:setup\.|[\w-]+:[\w-]+:exe\.)?)([\w-]+)(?::(.+))?")
 # The packages that aren't taken from the index unless the project says so.
 BOOT = ("base", "ghc-bignum", "ghc-prim", "integer-gmp", "integer-simple", "template-haskell")
-MOST_FILES = 2000
+# The most versions of a package that are read, and the most constraints on it that are told.
+MOST_FILES, MOST_CONSTRAINTS = 2000, 500
 
 
 class Name:
@@ -43,16 +44,9 @@ class Unit:
     """A record of `installed`."""
 
     def __init__(self, path, text):
-        told = {it.name: it.text().split() for it in items_of(text) if hasattr(it, "values")}
-        self.path, self.needs, self.is_part = path, told.get("depends", []), "lib-name" in told
+        told = {it.name: re.split(r"[,\s]+", it.text().strip()) for it in items_of(text) if hasattr(it, "values")}
+        self.path, self.needs, self.is_part = path, [it for it in told.get("depends", []) if it], "lib-name" in told
         self.name, self.version, self.id = (" ".join(told.get(it, [])) for it in ("name", "version", "id"))
-
-
-def platform_of(words):
-    """Returns the system and processor of the words to plan with."""
-    told = {it.partition("=")[0]: it.partition("=")[2].lower() for it in words}
-    system = told.get("--os", "linux")
-    return Platform({"darwin": "osx", "mingw32": "windows", "win32": "windows"}.get(system, system), told.get("--arch", "x86_64"))
 
 
 def path_of(words, name):
@@ -64,9 +58,9 @@ class Folder:
     """A folder as it was planned: the project, the records and the index."""
 
     def __init__(self, folder, words):
-        self.folder, self.words, self.platform = folder, list(words), platform_of(words)
+        self.folder, self.words, self.machine = folder, list(words), Machine(words)
         self.index, self.installed = path_of(words, "index"), path_of(words, "installed")
-        self.project = Project(folder, self.platform)
+        self.project = Project(folder, self.machine.platform)
         self.local = {it.name: it for it in self.project.locals}
         self._units = self._found = None
 
@@ -155,7 +149,10 @@ class Facts:
         told = [re.fullmatch(r"(.*?\.cabal)(:\d+)? (.*)", it) for it in skipped]
         self.skipped = {it[1]: f"{it[3]}{it[2] and f' at line {it[2][1:]}' or ''}" for it in told if it}
         self.candidates = {name: folder.candidates(name, self.skipped) for name in dict.fromkeys(it.package for it in self.names)}
+        self.certain, self.by_target = set(), {}
         self.asks = [(owner, target, one, ask) for owner in self.packages for one, ask in self.of_owner(owner) for target in [self.target(owner, ask)] if target]
+        for owner, target, one, ask in self.asks:
+            self.by_target.setdefault(target, []).append((one, ask))
 
     def target(self, owner, ask):
         """Returns the variable of the conflict to which a dependency leads, or none."""
@@ -170,25 +167,48 @@ class Facts:
             if one.description is None:
                 yield from ((one, unit_ask(one, unit)) for unit in one.needs)
                 continue
-            stanza_of = one.description.stanza_of()
+            flags = self.fixed(owner, one)
             for ask in one.description.asks:
-                stanza = stanza_of(ask.component)
-                if stanza is not None and self.is_in_force(owner, one, ask, stanza):
+                told = self.in_force(owner, one, ask, flags)
+                if told is not False:
+                    self.certain |= {(owner.text, ask)} if told else set()
                     yield one, ask
 
-    def is_in_force(self, owner, one, ask, stanza):
-        """Returns whether choices of the conflict alone can bring a dependency in force."""
-        parts = [stanza] * bool(stanza) + sorted(ask.flags())
-        if stanza and one.origin != "local":
+    def in_force(self, owner, one, ask, flags):
+        """Returns whether a dependency is in force, or none if that is for choices of the conflict to say. Choices that
+        aren't in the conflict don't bring it in force."""
+        if ask.stanza and (one.origin != "local" or owner.qualifier or not self.has(f"{owner.text}:{ask.stanza}")):
             return False
-        return all(self.has(f"{owner.qualifier}{owner.package}:{it}") for it in parts) and not any(fails(it, self.folder.platform) for it in ask.conditions)
+        found = self.folder.machine.all_hold(ask.conditions, flags)
+        free = flags_in(ask.conditions) - {it for it, _ in flags} if found is None else ()
+        if not all(self.has(f"{owner.text}:{it}") for it in free):
+            return False
+        return found and (not ask.stanza or self.is_on(owner, ask.stanza) or None)
+
+    def is_on(self, owner, stanza):
+        """Returns whether the project asks for the test suites or benchmarks of a package."""
+        field, word = {"*test": ("tests", "test"), "*bench": ("benchmarks", "bench")}[stanza]
+        return bool(self.folder.project.is_true(field)) or any(it.rest == word for it in self.constraints(owner))
+
+    def fixed(self, owner, one):
+        """Returns the flags of a candidate that have one value: a constraint sets it, or it is a manual one that none sets."""
+        told, anywhere = {}, {it for constraint in self.folder.project.on(owner.package) for it in constraint.flags()}
+        for constraint in self.constraints(owner):
+            for flag, is_on in constraint.flags().items():
+                told.setdefault(flag, set()).add(is_on)
+        found = {flag: min(told[flag]) for flag in one.description.flags if len(told.get(flag, ())) == 1}
+        for flag, section in one.description.flags.items():
+            of = {it.name: it.text().strip().lower() for it in section.items if hasattr(it, "values")}
+            if flag not in anywhere and of.get("manual") == "true":
+                found[flag] = of.get("default", "true") != "false"
+        return tuple(sorted(found.items()))
 
     def has(self, variable):
         return variable.lower() in self.low
 
     def constraints(self, name):
         """Returns the constraints on a variable."""
-        return [it for it in self.folder.project.on(name.package) if it.is_on(name.qualifier)]
+        return [it for it in self.folder.project.on(name.package) if it.is_on(name.qualifier)][:MOST_CONSTRAINTS]
 
     def extras(self, name):
         """Returns the dependencies that `extra-packages` states of a package at top level."""
@@ -197,12 +217,6 @@ class Facts:
         return self.folder.project.on(name.package, "extra-packages")
 
 
-def fails(text, platform):
-    """Returns whether a condition surely doesn't hold on a platform."""
-    is_not, _, inner = text.partition(" ")
-    return value(inner, platform) is (is_not == "not")
-
-
 def unit_ask(one, unit):
     """Returns the dependency of an installed unit on the unit that it was built with."""
-    return Ask(None, "lib", ENTRY.fullmatch(f"{unit.name} =={unit.version}"), (one.file, 1), "library", [])
+    return Ask(None, "lib", ENTRY.fullmatch(f"{unit.name} =={unit.version}"), (one.file, 1), ("", "library", []))

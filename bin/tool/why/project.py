@@ -101,12 +101,12 @@ class Project:
             yield "*.cabal", None, "", of_entry(self.folder, "./*.cabal")
 
     def on(self, package, name="constraints"):
-        """Returns the constraints on a package, or what another field of such entries says of it."""
+        """Returns the constraints on a package, or what another field of such entries says of it: each text once."""
         if name not in self._constraints:
             self._constraints[name] = {}
             for it in self.constraints(name):
-                self._constraints[name].setdefault(it.name, []).append(it)
-        return self._constraints[name].get(package, [])
+                self._constraints[name].setdefault(it.name, {}).setdefault((it.scope, it.rest), it)
+        return list(self._constraints[name].get(package, {}).values())
 
     def constraints(self, name="constraints"):
         """Returns the constraints, and the flags of sections `package NAME`."""

@@ -3,6 +3,7 @@
 In: the text of a range, and versions. Out: whether a version is in it, or none where the text can't be read. The answer
 itself is the program's: no range is decided here for it."""
 
+import functools
 import re
 
 TOKEN = re.compile(r"\s*(\|\||&&|\^>=|==|>=|<=|>|<|[(){},]|-any|-none|[0-9]+(?:\.[0-9]+)*(?:\.\*)?)")
@@ -114,6 +115,7 @@ class Reader:
         return test_of(mark, numbers, text.endswith(".*"))
 
 
+@functools.lru_cache(maxsize=1 << 14)
 def test(text):
     """Returns the test of a range, or none if it can't be read."""
     if not text.strip():

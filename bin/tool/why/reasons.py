@@ -73,8 +73,8 @@ def is_made(folder):
 
 def tools_of(facts, name, ones):
     """Yields which executables or libraries a package has, where another one is asked for."""
-    for _, target, _, ask in facts.asks:
-        lacking = [it for it in ones if not it.why_not and not has_part(ask, it)] if target == name.text else []
+    for _, ask in facts.by_target.get(name.text, []):
+        lacking = [it for it in ones if not it.why_not and not has_part(ask, it)]
         if not lacking:
             continue
         has = dict.fromkeys(it for one in lacking if one.description for it in (one.description.executables if ask.kind == "tool" else one.description.libraries))
@@ -94,7 +94,7 @@ def grouped(pairs):
 
 def asked(facts, name):
     """Yields who asks for which range of a package, candidates of one package with the same range together."""
-    told = grouped(((one.package, ask.kind, ask.text, ask.under()), (one, ask)) for _, target, one, ask in facts.asks if target == name.text)
+    told = grouped(((one.package, ask.kind, ask.text, ask.under()), (one, ask)) for one, ask in facts.by_target.get(name.text, []))
     for count, ((owner, kind, text, under), them) in enumerate(told.items()):
         if count == MOST_LINES:
             yield f"and {len(told) - MOST_LINES} more ranges"
@@ -151,11 +151,20 @@ def of_part(facts, name):
         return
     for one in facts.candidates.get(package, []):
         if one.description and name.part.lower() in one.description.flags:
-            yield f"{one.file}:{one.description.flags[name.part.lower()]}: a flag of {one}"
+            yield flag_of(one, name.part.lower())
             break
     for it in facts.constraints(name):
         if name.part.lower() in it.flags():
             yield f"{it.place()}: `{it.text}` sets it {'on' if it.flags()[name.part.lower()] else 'off'}{origin_of(it.file)}"
+
+
+def flag_of(one, flag):
+    """Returns the line on a flag of a candidate."""
+    section = one.description.flags[flag]
+    of = {it.name: it.text().strip().lower() for it in section.items if hasattr(it, "values")}
+    default = "off" if of.get("default") == "false" else "on"
+    manual = ", and manual: only a constraint gives it the other value" if of.get("manual") == "true" else ""
+    return f"{one.file}:{section.line}: a flag of {one}, by default {default}{manual}"
 
 
 def circles(facts):
