@@ -100,7 +100,7 @@ def asked(facts, name):
             yield f"and {len(told) - MOST_LINES} more ranges"
             return
         one, ask = them[0]
-        relaxed = ask.owner and facts.folder.project.relaxed(owner, name.package)
+        relaxed = ask.owner and ask.range and facts.folder.project.relaxed(owner, name.package)
         note = f"; bounds may be relaxed by {relaxed}" if relaxed else left(facts, name, ask)
         yield f"{ask.place()}: {versions([it for it, _ in them])} {verb(kind, them)} {text}{under}{note}"
 
