@@ -6,9 +6,11 @@ import stat
 
 from tool.elements import Misread, elements
 from tool.ends import WRONG_WORDS
-from tool.lint import package, project
-from tool.lint.findings import CODES, Finding
+from tool.folder.project import FILES
+from tool.lint.findings import CODES, Finding, Speller
 from tool.lint.known import COMPILERS
+from tool.lint.package import Package
+from tool.lint.project import ProjectFile, of_names
 from tool.planner import Words
 from tool.refusal import UNPRINTABLE, shown
 from tool.why.command import checked
@@ -35,15 +37,15 @@ def words_of(words):
 
 def findings(folder, is_whole=True):
     """Returns the findings of a folder by file and line. `is_whole` asks for those on folders and the compiler too."""
-    found = []
+    found, speller = [], Speller()
     for file, text in folder.project.texts.items():
         try:
             items = elements(text)[0]
         except Misread as error:
             found.append(Finding(file, error.line, "L303", f"this file can't be read: {error}"))
             continue
-        found += (project if file.startswith("cabal.project") and not file.endswith(".cabal") else package).findings(file, items, text)
-    found += [*unread(folder), *odd_names(folder), *project.of_names(folder), *optional(folder)]
+        found += (ProjectFile if file in FILES else Package)(file, items, text, speller).findings()
+    found += [*unread(folder), *odd_names(folder), *of_names(folder, speller), *optional(folder)]
     if is_whole:
         found += [*compiler(folder), *(Finding(it.split("`")[1], 1, "L302", it) for it in notes(folder))]
     places = {file: at for at, file in enumerate(folder.project.texts)}
@@ -52,7 +54,7 @@ def findings(folder, is_whole=True):
 
 def unread(folder):
     """Yields the files of the project that can't be read."""
-    for path in dict.fromkeys([*folder.project.paths, "cabal.project", "cabal.project.freeze", "cabal.project.local"]):
+    for path in dict.fromkeys([*folder.project.paths, *FILES]):
         if path in folder.project.texts or not os.path.lexists(f"{folder.folder}/{path}"):
             continue
         yield Finding(path, 1, "L303", f"this can't be read: {cause(f'{folder.folder}/{path}')}")
@@ -78,7 +80,7 @@ def odd_names(folder):
 
 def optional(folder):
     """Yields entries of `optional-packages` that give no package."""
-    for entry, setting, place, paths in folder.project.members():
+    for entry, setting, place, paths in folder.project.members:
         if setting is not None and setting.name == "optional-packages" and not paths:
             file, _, line = place.rpartition(":")
             yield Finding(file, int(line), "L108", f"`{shown(entry)}` of optional-packages gives no package, and has no effect")

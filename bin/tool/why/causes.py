@@ -35,3 +35,9 @@ CAUSES = {
     "TooMany": ("there are more than 20,000 records and files", "take old versions out of the index, or make it by `cabal-plan folder --newest=N`"),
     "BadEvent": ("an event isn't `start`, `completed NUMBER` or `failed NUMBER`", "correct it"),
 }
+# What to do about forms of project files that aren't read, by the first word of the line.
+UNSUPPORTED = {
+    "import": "copy the lines of the imported file into this one",
+    "source-repository-package": "put the package into a folder below this one and name it in `packages`",
+    "flags": "for each package a constraint, such as `constraints: NAME +flag`",
+}

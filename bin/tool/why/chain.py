@@ -230,7 +230,7 @@ def versions(ones):
 
 def barred(constraint, ones=()):
     """Returns a clause on a constraint and what it bars."""
-    return f"`{constraint.text}` ({constraint.place()}) bars {versions(ones) if ones else 'it'}"
+    return f"{constraint.quoted()} bars {versions(ones) if ones else 'it'}"
 
 
 def there(package, ones, ask=None):

@@ -18,6 +18,8 @@ NAME = re.compile(r"((?:[\w-]+:setup\.|[\w-]+:[\w-]+:exe\.)?)([\w-]+)(?::(.+))?"
 BOOT = ("base", "ghc-bignum", "ghc-prim", "integer-gmp", "integer-simple", "template-haskell")
 # The most versions of a package that are read, and the most constraints on it that are told.
 MOST_FILES, MOST_CONSTRAINTS = 2000, 500
+# The most names for which others that are spelt alike are looked up.
+MOST_ALIKE = 50
 
 
 class Name:
@@ -63,6 +65,7 @@ class Folder:
         self.project = Project(folder, self.machine.platform)
         self.local = {it.name: it for it in self.project.locals}
         self._units = self._found = None
+        self._alike = {}
 
     def units(self):
         """Returns the records, read once."""
@@ -96,11 +99,13 @@ class Folder:
         return self._found
 
     def alike(self, name):
-        """Returns the known names that are spelt alike."""
-        low = name.lower().replace("_", "-")
-        same = [it for it in self.known() if it.lower() == low and it != name]
-        close = difflib.get_close_matches(name, sorted(it for it in self.known() if abs(len(it) - len(name)) <= 2), 3, 0.75)
-        return list(dict.fromkeys([*same, *(it for it in close if it != name)]))[:3]
+        """Returns the known names that are spelt alike. It looks for a limited number of names only."""
+        if name not in self._alike and len(self._alike) < MOST_ALIKE:
+            low = name.lower().replace("_", "-")
+            same = [it for it in self.known() if it.lower() == low]
+            close = difflib.get_close_matches(name[:60], sorted(it for it in self.known() if abs(len(it) - len(name)) <= 2), 3, 0.75)
+            self._alike[name] = [it for it in dict.fromkeys([*same, *close]) if it != name][:3]
+        return self._alike.get(name, [])
 
     def versions_of(self, name):
         """Returns the versions of a name in the index, the latest first."""

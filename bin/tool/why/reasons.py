@@ -121,7 +121,7 @@ def barring(facts, name):
     told = [(it, of) for it in facts.constraints(name) for of in [[one for one in there if of_constraint(it, one)]] if of]
     for it, of in told[:MOST_LINES]:
         what = f"all of {versions(of)}" if len(of) == len(there) > 1 else versions(of)
-        yield f"{it.place()}: the constraint `{it.text}` bars {what}{origin_of(it.file)}"
+        yield f"{it.quoted()} bars {what}" if it.is_asked else f"{it.place()}: the constraint `{it.text}` bars {what}{origin_of(it.file)}"
     for it in facts.extras(name)[:MOST_LINES]:
         yield f"{it.place()}: `extra-packages` asks for {it.text}"
 
