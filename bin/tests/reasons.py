@@ -74,9 +74,9 @@ class Project(Room):
         """Runs a word of the tool, and checks its status and that its output and errors have these texts."""
         before = self.listing()
         found, out, err = self.tool(word, *words)
-        self.assertEqual(status, found, out + err)
+        self.assertEqual(status, found, (out + err)[:3000])
         for text in told:
-            self.assertIn(text, out + err)
+            self.assertTrue(text in out + err, f"{text!r} isn't in: {(out + err)[:3000]}")
         self.assertEqual(before, self.listing())
         return out
 

@@ -8,7 +8,7 @@ from tool.why.ranges import admits
 from tool.why.texts import some
 
 ORIGINS = {"index": "in the index", "installed": "installed", "local": "among the local packages"}
-MOST_PASSES, MOST_NAMES = 50, 60
+MOST_PASSES, MOST_NAMES, MOST_SENTENCES = 50, 400, 12
 
 
 class Cause:
@@ -122,7 +122,11 @@ class Chain:
         if len(self.variables) > MOST_NAMES:
             return []
         at = self.contradiction()
-        return [*Telling(self).of(at)] if at else []
+        told = [*Telling(self).of(at)] if at else []
+        if len(told) <= MOST_SENTENCES:
+            return told
+        half = MOST_SENTENCES // 2
+        return [*told[:half], f"(and {len(told) - 2 * half} more steps of this kind)", *told[-half:]]
 
 
 class Telling:

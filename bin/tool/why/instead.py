@@ -51,8 +51,7 @@ def because(folder, answer, name, version):
     yield ""
     told = Chain(facts).sentences() or reasons.circles(facts)
     yield from [*told, ""] if told else []
-    for it in facts.names:
-        yield from reasons.of_name(facts, it)
+    yield from reasons.of_names(facts)
     yield ""
     yield proof(answer).replace("there is no plan", f"there is no plan with {name} {version}")
     yield "read off the files, and not proved: all else above"

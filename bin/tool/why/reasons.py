@@ -9,7 +9,7 @@ from tool.why.chain import ORIGINS, has_part, of_constraint, part_of, verb, vers
 from tool.why.ranges import admits
 from tool.why.texts import listed, some
 
-MOST_LINES = 8
+MOST_LINES, MOST_NAMES = 8, 40
 MADE = ".plan-folder"
 
 
@@ -17,6 +17,17 @@ def headline(answer, names):
     """Returns the line that says what is proved."""
     told = some(names, 12)
     return f"no plan: {told} can't be chosen together" if len(names) > 1 else f"no plan: {told} can't be chosen"
+
+
+def of_names(facts):
+    """Yields the lines on the names of a conflict. Where there are too many, those that lack a file come last."""
+    names = facts.names
+    if len(names) > MOST_NAMES:
+        names = sorted(names, key=lambda it: not facts.candidates.get(it.package))
+    for name in names[:MOST_NAMES]:
+        yield from of_name(facts, name)
+    if len(names) > MOST_NAMES:
+        yield f"and {len(names) - MOST_NAMES} more names"
 
 
 def of_name(facts, name):

@@ -90,10 +90,11 @@ def lines(folder, answer, name, version):
         while following[way[-1]] is not None:
             way.append(following[way[-1]])
         found.append(" -> ".join(label(nodes[it], it == way[-1]) for it in way))
-    ways = [it for it in dict.fromkeys(found) if " -> " in it] or found
+    ways = [it for it in dict.fromkeys(found) if " -> " in it]
     versions = dict.fromkeys(split(nodes[at]["package"])[1] for at in order if split(nodes[at]["package"])[0] == name)
-    head = f"{name} {some(versions)} is in the plan"
+    told = " is local, and so it" if name in folder.local else ""
+    head = f"{name} {some(versions)}{told} is in the plan"
     if not ways:
-        return 0, [f"{head}, and no local component leads to it: it is of extra-packages"]
+        return 0, [head if told else f"{head}, and no local component leads to it: it is of extra-packages"]
     more = [f"and {len(ways) - MOST_WAYS} more ways"] * (len(ways) > MOST_WAYS)
     return 0, [head, *(f"  {it}" for it in ways[:MOST_WAYS]), *more]
