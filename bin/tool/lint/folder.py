@@ -75,7 +75,9 @@ def compiler(folder):
     told = f"the plan is for {given or f'{COMPILER}, the default'}"
     records = [it for it in folder.units() if it.name == "ghc" and version(it.version)]
     if records and all(it.version != number for it in records):
-        yield Finding(records[0].path, 1, "L301", f"these are the records of ghc {records[0].version}, and {told}: say --compiler=ghc-{records[0].version}")
+        yield Finding(
+            records[0].path, 1, "L301", f"these are the records of ghc {records[0].version}, and {told}: say --compiler=ghc-{records[0].version}"
+        )
         return
     bases = [(it, COMPILERS.get((version(it.version) or ())[:2])) for it in folder.units() if it.name == "base" and not records]
     if bases and all(of and not f"{number}.".startswith(f"{of}.") for _, of in bases):

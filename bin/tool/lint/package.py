@@ -35,7 +35,9 @@ class Package:
         if field.name in TOP or field.name.startswith("x-"):
             return
         if field.name in FIELDS:
-            yield self.finding(field, "L104", f"`{field.name}:` stands outside of any section, such as `library`, and isn't read: indent it below one")
+            yield self.finding(
+                field, "L104", f"`{field.name}:` stands outside of any section, such as `library`, and isn't read: indent it below one"
+            )
         else:
             yield self.finding(field, "L101", f"there is no field `{field.name}` of a package{self.nearest(field.name, FIELDS)}")
 

@@ -174,8 +174,11 @@ class Telling:
         """Returns in words who depends on what: candidates with the same range together."""
         found = {}
         for one, ask in pairs:
-            found.setdefault((one.package, ask.text, ask.kind), []).append((one, ask))
-        told = [f"{versions([one for one, _ in them])} {verb(kind, them)} {text} ({them[0][1].place()})" for (_, text, kind), them in found.items()]
+            found.setdefault((one.package, ask.text, ask.kind, f" for {ask.component}" if ask.stanza else ""), []).append((one, ask))
+        told = [
+            f"{versions([one for one, _ in them])} {verb(kind, them)} {text}{of} ({them[0][1].place()})"
+            for (_, text, kind, of), them in found.items()
+        ]
         return some(told, 4)
 
     def state(self, cause):
@@ -207,7 +210,11 @@ class Telling:
             yield f"Because {' and '.join(told)}, there is no plan."
             return
         if not told:
-            told = [self.asked(pairs)] if (pairs := self.wanting(variable)) else [f"`extra-packages` names {package} ({self.chain.extra[variable][0].place()})"]
+            told = (
+                [self.asked(pairs)]
+                if (pairs := self.wanting(variable))
+                else [f"`extra-packages` names {package} ({self.chain.extra[variable][0].place()})"]
+            )
         told += [barred(it.of, of) for it, of in groups if it.kind == "barred"]
         unmet = [one for it, of in groups if it.kind == "unmet" for one in of]
         told += [f"{versions(unmet)} can't be chosen"] if unmet else []
@@ -216,7 +223,13 @@ class Telling:
 
     def wanting(self, variable):
         """Returns the dependencies of what has to be chosen on a variable."""
-        return [(one, ask) for owner, targets in self.chain.asks.items() if owner in self.chain.required for one, asks in targets.get(variable, {}).items() for ask in asks]
+        return [
+            (one, ask)
+            for owner, targets in self.chain.asks.items()
+            if owner in self.chain.required
+            for one, asks in targets.get(variable, {}).items()
+            for ask in asks
+        ]
 
 
 def verb(kind, them):

@@ -61,7 +61,9 @@ def main(words):
     elif of.name:
         return ways_or_other(of.name, folder, planner, answer)
     else:
-        tell([f"there is a plan, of {len(answer.object['nodes'])} nodes: `cabal-plan plan` prints it, and `cabal-plan why NAME` the ways to a package"])
+        tell(
+            [f"there is a plan, of {len(answer.object['nodes'])} nodes: `cabal-plan plan` prints it, and `cabal-plan why NAME` the ways to a package"]
+        )
         tell(conflict.silent(folder))
     sys.stdout.flush()
     return answer.status

@@ -155,13 +155,21 @@ class Facts:
         self.skipped = {it[1]: f"{it[3]}{it[2] and f' at line {it[2][1:]}' or ''}" for it in told if it}
         self.candidates = {name: folder.candidates(name, self.skipped) for name in dict.fromkeys(it.package for it in self.names)}
         self.certain, self.by_target = set(), {}
-        self.asks = [(owner, target, one, ask) for owner in self.packages for one, ask in self.of_owner(owner) for target in [self.target(owner, ask)] if target]
+        self.asks = [
+            (owner, target, one, ask)
+            for owner in self.packages
+            for one, ask in self.of_owner(owner)
+            for target in [self.target(owner, ask)]
+            if target
+        ]
         for owner, target, one, ask in self.asks:
             self.by_target.setdefault(target, []).append((one, ask))
 
     def target(self, owner, ask):
         """Returns the variable of the conflict to which a dependency leads, or none."""
-        name = {"setup": f"{owner.package}:setup.{ask.name}", "tool": f"{owner.package}:{ask.name}:exe.{ask.name}"}.get(ask.kind, owner.qualifier + ask.name)
+        name = {"setup": f"{owner.package}:setup.{ask.name}", "tool": f"{owner.package}:{ask.name}:exe.{ask.name}"}.get(
+            ask.kind, owner.qualifier + ask.name
+        )
         return name if name in self.known else None
 
     def of_owner(self, owner):

@@ -117,7 +117,13 @@ class Project:
 
     def constraints(self, name="constraints"):
         """Returns the constraints, and the flags of sections `package NAME`."""
-        found = [Constraint(text, (it.file, line), told, it.field) for it in self.of(name) for text, line in entries(it.field) for told in [SCOPE.fullmatch(text)] if told]
+        found = [
+            Constraint(text, (it.file, line), told, it.field)
+            for it in self.of(name)
+            for text, line in entries(it.field)
+            for told in [SCOPE.fullmatch(text)]
+            if told
+        ]
         if name == "constraints":
             for it in self.of("flags", "package"):
                 for text, line in names(it.field):

@@ -11,7 +11,7 @@ from tool.why.chain import has_part, of_constraint
 from tool.why.edits import replaced, with_entries, with_line, without_field
 from tool.why.facts import BOOT, Facts, Folder
 from tool.why.ranges import admits
-from tool.why.reasons import circles
+from tool.why.reasons import circles, default_of
 from tool.why.room import copy_of
 
 LOCAL, FREEZE = "cabal.project.local", "cabal.project.freeze"
@@ -41,7 +41,7 @@ class Options:
 
     def all(self):
         """Returns the changes, each once."""
-        kinds = (self.renamed, self.dropped, self.widened, self.tools, self.stanzas, self.relaxed, self.opened, self.files, self.boot)
+        kinds = (self.renamed, self.dropped, self.widened, self.tools, self.stanzas, self.flagged, self.relaxed, self.opened, self.files, self.boot)
         found = {}
         for it in (it for kind in kinds for it in kind()):
             found.setdefault(it.text, it)
@@ -103,7 +103,10 @@ class Options:
             there = [it for it in self.facts.candidates[name.package] if not it.why_not and it.description] if ask.kind == "tool" else []
             for other in dict.fromkeys(text for it in there if not has_part(ask, it) for text in it.description.executables):
                 new = (f"{ask.name}:{other} {ask.range}".strip(), ask.line)
-                yield Change(f"{ask.place()}: write `{ask.name}:{other}` in place of `{ask.name}:{ask.part}`", self.in_field(ask.file, ask.field, ask.entry, new))
+                yield Change(
+                    f"{ask.place()}: write `{ask.name}:{other}` in place of `{ask.name}:{ask.part}`",
+                    self.in_field(ask.file, ask.field, ask.entry, new),
+                )
 
     def stanzas(self):
         """Yields `tests` and `benchmarks` unset, where the conflict has them."""
@@ -111,6 +114,15 @@ class Options:
             for it in self.project.of(field) if any(name.part == part for name in self.facts.names) else []:
                 make = lambda it=it: {it.file: without_field(self.project.texts[it.file], it.field)}
                 yield Change(f"{it.file}:{it.field.line}: drop `{field}: {it.field.text()}`", make)
+
+    def flagged(self):
+        """Yields flags of the conflict with the value that isn't their default, where no constraint sets them."""
+        for name in (it for it in self.facts.names if it.part and it.part[0] != "*"):
+            ones = [it for it in self.facts.candidates.get(name.package, []) if it.description and name.part.lower() in it.description.flags]
+            if ones and not any(name.part.lower() in it.flags() for it in self.project.on(name.package)):
+                is_on = default_of(ones[0].description.flags[name.part.lower()])
+                line = f"constraints: {name.qualifier if name.qualifier.endswith('setup.') else ''}{name.package} {'-' if is_on else '+'}{name.part}"
+                yield Change(f"{LOCAL}: add `{line}`", self.with_setting(line))
 
     def relaxed(self):
         """Yields bounds of packages of the index that are relaxed."""
@@ -196,7 +208,6 @@ def lines(planner, facts):
         if not trial.found:
             trial.run_twice()
     yield from (f"help: {it}" for it in trial.found)
-    if trial.left and not trial.found:
-        yield f"note: {trial.tried} changes were tried, and none gives a plan; {trial.left} more were not tried"
-    elif trial.tried and not trial.found:
-        yield f"note: {trial.tried} changes were tried, such as other bounds, and none gives a plan"
+    if not trial.found and trial.tried:
+        count = "one change was" if trial.tried == 1 else f"{trial.tried} changes were"
+        yield f"note: {count} tried, and none gives a plan{f'; {trial.left} more were not tried' if trial.left else ''}"

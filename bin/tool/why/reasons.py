@@ -69,7 +69,7 @@ def absent(facts, package):
     folder = facts.folder
     alike = folder.alike(package)
     where = f"{folder.index}/{package}"
-    yield f"there is no {package}: no file of it in the index ({where}), no record of it in {folder.installed}, and no local package of this name"
+    yield f"there is no {package}: no file of it in the index ({where}), no record in {folder.installed}, and no local package of this name"
     if alike:
         yield f"spelt alike: {some(alike)}"
     elif is_made(folder):
@@ -88,7 +88,9 @@ def tools_of(facts, name, ones):
         lacking = [it for it in ones if not it.why_not and not has_part(ask, it)]
         if not lacking:
             continue
-        has = dict.fromkeys(it for one in lacking if one.description for it in (one.description.executables if ask.kind == "tool" else one.description.libraries))
+        has = dict.fromkeys(
+            it for one in lacking if one.description for it in (one.description.executables if ask.kind == "tool" else one.description.libraries)
+        )
         kind = "executables" if ask.kind == "tool" else "libraries"
         told = f"it has {some(it or 'the main library' for it in has)}" if has else f"it has no {kind}"
         yield f"{versions(lacking)} {'declares' if len(lacking) == 1 else 'declare'} no {part_of(ask)}: {told}"
@@ -169,11 +171,16 @@ def of_part(facts, name):
             yield f"{it.place()}: `{it.text}` sets it {'on' if it.flags()[name.part.lower()] else 'off'}{origin_of(it.file)}"
 
 
+def default_of(section):
+    """Returns whether a flag is on by default."""
+    return not any(it.name == "default" and it.text().strip().lower() == "false" for it in section.items if hasattr(it, "values"))
+
+
 def flag_of(one, flag):
     """Returns the line on a flag of a candidate."""
     section = one.description.flags[flag]
     of = {it.name: it.text().strip().lower() for it in section.items if hasattr(it, "values")}
-    default = "off" if of.get("default") == "false" else "on"
+    default = "on" if default_of(section) else "off"
     manual = ", and manual: only a constraint gives it the other value" if of.get("manual") == "true" else ""
     return f"{one.file}:{section.line}: a flag of {one}, by default {default}{manual}"
 
@@ -226,5 +233,7 @@ def notes(folder):
         elif not os.path.isdir(whole):
             found.append(f"there is no folder `{path}`: it counts as an empty one; `cabal-plan folder` makes `index` and `installed`")
         elif not any(it.endswith(".conf") for it in listed(whole)) if word == "installed" else not listed(whole):
-            found.append(f"the folder `{path}` has no {'records' if word == 'installed' else 'packages'}; `cabal-plan folder` makes `index` and `installed`")
+            found.append(
+                f"the folder `{path}` has no {'records' if word == 'installed' else 'packages'}; `cabal-plan folder` makes `index` and `installed`"
+            )
     return found
