@@ -166,7 +166,7 @@ MISTAKES = (
 
 
 class Mistakes(Project):
-    """Each mistake in a room of its own."""
+    """Each mistake in a room of its own. `why` alone names each cause, since it prints what `lint` finds."""
 
     def make(self, changed):
         """Makes a mistake."""
@@ -186,6 +186,7 @@ class Mistakes(Project):
                 self.setUp()
                 self.make(changed)
                 self.says({"lint": 1, "why": status}[word], word, told, *words)
+                self.says(status, "why", told[:1], *words)
 
     def test_without_a_mistake(self):
         self.says(0, "why", ["there is a plan, of 4 nodes"], COMPILER)
