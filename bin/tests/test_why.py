@@ -176,7 +176,7 @@ class Conflicts(Project):
         self.says(1, "why", ["`index` was made by `cabal-plan folder`", "run it again if conduit is new"], COMPILER)
 
     def test_a_search_that_gives_up(self):
-        ran = self.run_script([f"{TOP}/bin/cabal-plan", "why"], f"{TOP}/examples/counting")
+        ran = self.run_script([f"{TOP}/bin/cabal-plan", "why", PROGRAM], f"{TOP}/examples/counting")
         self.assertEqual(2, ran.returncode)
         self.assertIn("try --count-conflicts", ran.out)
 
@@ -190,7 +190,7 @@ class Conflicts(Project):
             ("no-plan", "help: app.cabal:8: widen `store >=4`: a plan then has store 3.0"),
             ("conflict", "Because z 1 depends on a ==3"),
         ):
-            ran = self.run_script([f"{TOP}/bin/cabal-plan", "why"], f"{TOP}/examples/{name}")
+            ran = self.run_script([f"{TOP}/bin/cabal-plan", "why", PROGRAM], f"{TOP}/examples/{name}")
             self.assertEqual(1, ran.returncode, ran.err)
             self.assertIn(told, ran.out)
 
