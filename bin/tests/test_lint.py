@@ -44,6 +44,10 @@ class Lint(Project):
             "main.cabal:8: L103 `build-depends:`",
         )
 
+    def test_a_branch_that_is_swallowed(self):
+        self.put("main.cabal", MAIN.replace("  build-depends", "   if flag(f) && !os(linux)\n     build-depends"))
+        self.finds("main.cabal:7: L103 `if flag(f) && !os(linux)` is read as a part of `exposed-modules:`", "main.cabal:8: L103 `build-depends:`")
+
     def test_texts_for_people(self):
         self.put("main.cabal", MAIN.replace("version: 1\n", "version: 1\ndescription:\n  Write\n    build-depends: main\n  and go on.\n"))
         self.finds()
@@ -82,7 +86,8 @@ class Lint(Project):
         )
 
     def test_names_that_nothing_has(self):
-        text = "constraints: text <3,\n  any.Text <2, txt +x,\n  man:setup.base <5\npreferences: aesn <2\nallow-newer: main:txet, all, *:base, text-2:base\npackage tex\n  flags: +fast\n"
+        text = "constraints: text <3,\n  any.Text <2, txt +x,\n  man:setup.base <5\npreferences: aesn <2\n"
+        text += "allow-newer: main:txet, all, *:base, text-2:base\npackage tex\n  flags: +fast\n"
         self.put("cabal.project", PACKAGES + text)
         self.finds(
             "cabal.project:3: L201 `any.Text <2` has no effect: there is no package `Text`",

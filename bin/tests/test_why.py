@@ -66,11 +66,13 @@ class Conflicts(Project):
         lines = out.splitlines()
         self.assertEqual("no plan: main, store and text can't be chosen together", lines[0])
         self.assertEqual(
-            "Because store 4.0 depends on text >=3 (index/store/4.0/store.cabal:7) and there is only text 2.0 and 1.2 in the index, store 4.0 can't be chosen.",
+            "Because store 4.0 depends on text >=3 (index/store/4.0/store.cabal:7) and there is only text 2.0 and 1.2 in the index, "
+            "store 4.0 can't be chosen.",
             lines[2],
         )
         self.assertEqual(
-            "Because main 1 depends on store >=4 (main.cabal:9) and store 4.0 can't be chosen and there is only store 4.0 and 3.0 in the index, there is no plan.",
+            "Because main 1 depends on store >=4 (main.cabal:9) and store 4.0 can't be chosen and there is only store 4.0 and 3.0 in the index, "
+            "there is no plan.",
             lines[3],
         )
         for text in (
@@ -93,6 +95,11 @@ class Conflicts(Project):
         self.change("main.cabal", "text,", "text >=3,")
         self.put("cabal.project", PACKAGES + "constraints: aeson <1\n")
         self.says(1, "why", ["; and ", "help: "], COMPILER)
+
+    def test_one_name(self):
+        self.put("cabal.project", PACKAGES + "extra-packages: gone\n")
+        told = ["no plan: gone can't be chosen\n", "proved: there is no plan, as this can't be chosen, whatever else is\n"]
+        self.says(1, "why", [*told, "`extra-packages` names gone (cabal.project:2) and there is no gone"], COMPILER)
 
     def test_without_trying_changes(self):
         self.change("main.cabal", "text,", "text >=3,")
@@ -131,7 +138,7 @@ class Conflicts(Project):
     def test_the_compilers_base(self):
         self.package("base", "4.17", "text")
         self.change("main.cabal", "base >=4.14", "base >=4.16")
-        told = ["not taken: base 4.17, of the index, and isn't taken from there", "main.cabal:7: widen `base >=4.16`: a plan then has base 4.15"]
+        told = ["not taken: base 4.17, which the index has, and which isn't taken from there", "main.cabal:7: widen `base >=4.16`: a plan then has"]
         self.says(1, "why", told, COMPILER)
 
     def test_a_record_that_is_left_out(self):
@@ -158,6 +165,11 @@ class Conflicts(Project):
         self.put("cabal.project", PACKAGES + "constraints: main <1\n")
         self.says(1, "why", ["Because `main <1` (cabal.project:2) bars main 1, there is no plan.", "help: cabal.project:2: drop `main <1`"], COMPILER)
 
+    def test_a_local_package_that_shall_be_installed(self):
+        self.put("cabal.project", PACKAGES + "constraints: main installed\n")
+        told = ["Because `main installed` (cabal.project:2) bars main 1, there is no plan.", "help: cabal.project:2: drop `main installed`"]
+        self.says(1, "why", told, COMPILER)
+
     def test_an_extra_package(self):
         self.put("cabal.project", PACKAGES + "extra-packages: text >=3\n")
         self.says(
@@ -173,7 +185,7 @@ class Conflicts(Project):
         os.rename(f"{self.p}/index", f"{self.p}/.plan-folder")
         os.symlink(".plan-folder", f"{self.p}/index")
         self.change("main.cabal", "aeson", "conduit")
-        self.says(1, "why", ["`index` was made by `cabal-plan folder`", "run it again if conduit is new"], COMPILER)
+        self.says(1, "why", ["`index` was made by `cabal-plan folder`", "run it again if conduit is new\n"], COMPILER)
 
     def test_a_search_that_gives_up(self):
         ran = self.run_script([f"{TOP}/bin/cabal-plan", "why", PROGRAM], f"{TOP}/examples/counting")

@@ -9,9 +9,8 @@ from tool.lint.findings import Finding
 from tool.lint.known import FREE_TEXT
 
 FIELD = re.compile(r"([A-Za-z][A-Za-z0-9-]*)[ \t]*:(?!:)")
-SECTION = re.compile(
-    r"(?:library|custom-setup|(?:library|executable|test-suite|benchmark|foreign-library|flag|common|package|source-repository)[ \t]+[\w.-]+)", re.I
-)
+NAMED = "library|executable|test-suite|benchmark|foreign-library|flag|common|package|source-repository"
+SECTION = re.compile(rf"(?:library|custom-setup|(?:{NAMED})[ \t]+[\w.-]+|(?:if|elif)[ \t(!]+(?:os|arch|impl|flag)[ \t]*\(.*)", re.I)
 BLANKS = re.compile(r"[ \t]*")
 
 

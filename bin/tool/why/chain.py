@@ -33,7 +33,7 @@ def has_part(ask, one):
 def of_constraint(constraint, one):
     """Returns whether a constraint bars a candidate."""
     if constraint.rest in ("installed", "source"):
-        return one.origin == ("index" if constraint.rest == "installed" else "installed")
+        return (one.origin == "installed") == (constraint.rest == "source")
     told = constraint.range()
     return told is not None and admits(told, one.version) is False
 

@@ -44,5 +44,8 @@ def reason(folder, facts):
 def proof(answer):
     """Returns the line on what is proved."""
     if "not_minimised" in answer.object:
-        return "proved: there is no plan, as these names can't be chosen together; not minimised: the limit was met, and some names may not be needed"
+        why = "not minimised: the limit was met, and some names may not be needed"
+        return f"proved: there is no plan, as these names can't be chosen together; {why}"
+    if len(answer.object["conflict"]) == 1:
+        return "proved: there is no plan, as this can't be chosen, whatever else is"
     return "proved: there is no plan, as these names can't be chosen together, whatever else is chosen; without any one of them the others can"

@@ -16,6 +16,7 @@ from tool.why.texts import items_of, listed, text_of
 NAME = re.compile(r"((?:[\w-]+:setup\.|[\w-]+:[\w-]+:exe\.)?)([\w-]+)(?::(.+))?")
 # The packages that aren't taken from the index unless the project says so.
 BOOT = ("base", "ghc-bignum", "ghc-prim", "integer-gmp", "integer-simple", "template-haskell")
+UNTAKEN = "which the index has, and which isn't taken from there, unless `allow-boot-library-installs: True` is set"
 # The most versions of a package that are read, and the most constraints on it that are told.
 MOST_FILES, MOST_CONSTRAINTS = 2000, 500
 # The most names for which others that are spelt alike are looked up.
@@ -138,7 +139,7 @@ class Folder:
             text = text_of(f"{self.folder}/{file}")
             if text is None and file not in skipped:
                 continue
-            cause = f"its file is skipped: {skipped[file]}" if file in skipped else "" if is_taken else "of the index, and isn't taken from there"
+            cause = f"its file is skipped: {skipped[file]}" if file in skipped else "" if is_taken else UNTAKEN
             found.append(Candidate(name, version, "index", file, Description(text or "", file), cause))
         return found
 

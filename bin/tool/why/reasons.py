@@ -73,7 +73,7 @@ def absent(facts, package):
     if alike:
         yield f"spelt alike: {some(alike)}"
     elif is_made(folder):
-        yield f"`{folder.index}` was made by `cabal-plan folder`, and has what the project reached then: run it again if {package} is new in the project"
+        yield f"`{folder.index}` was made by `cabal-plan folder` and has what the project reached then: run it again if {package} is new"
 
 
 def is_made(folder):
