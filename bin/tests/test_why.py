@@ -3,7 +3,7 @@
 import os
 import time
 
-from tests.reasons import COMPILER, MAIN, PROGRAM, Project
+from tests.reasons import COMPILER, MAIN, PACKAGE, PROGRAM, Project
 from tests.rooms import TOP
 from tool.why.chain import Chain
 from tool.why.facts import Facts, Folder
@@ -331,6 +331,13 @@ class Strangers(Project):
         for how in (">&-", "| true", ">/dev/full"):
             ran = self.run_script(["sh", "-c", f"{TOP}/bin/cabal-plan why {PROGRAM} {COMPILER} {how}"], self.p)
             self.assertNotIn("Traceback", ran.err)
+
+    def test_an_index_of_long_files(self):
+        self.change("main.cabal", "aeson", "a")
+        for it in range(9):
+            self.write(f"p/index/a/{it}/a.cabal", PACKAGE.format("a", it, "gone") + "\n" * 40000)
+        told = ["not looked into, as these files are too long: a 1 and 0", "a 8, 7, 6, 5 and 3 more depend on gone"]
+        self.says(1, "why", told, COMPILER)
 
     def test_no_room_is_left_behind(self):
         self.change("main.cabal", "text,", "text >=3,")

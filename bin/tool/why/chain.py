@@ -119,7 +119,7 @@ class Chain:
 
     def sentences(self):
         """Returns the reason, or none where this way finds none."""
-        if len(self.variables) > MOST_NAMES:
+        if len(self.variables) > MOST_NAMES or self.facts.folder.left < 0:
             return []
         at = self.contradiction()
         told = [*Telling(self).of(at)] if at else []

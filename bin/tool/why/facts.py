@@ -19,6 +19,9 @@ BOOT = ("base", "ghc-bignum", "ghc-prim", "integer-gmp", "integer-simple", "temp
 UNTAKEN = "which the index has, and which isn't taken from there, unless `allow-boot-library-installs: True` is set"
 # The most versions of a package that are read, and the most constraints on it that are told.
 MOST_FILES, MOST_CONSTRAINTS = 2000, 500
+# The most lines of package files of the index that are looked into to explain a conflict, and the most records.
+MOST_LINES, MOST_RECORDS = 300_000, 20_000
+UNREAD = "not looked into"
 # The most names for which others that are spelt alike are looked up.
 MOST_ALIKE = 50
 
@@ -66,12 +69,12 @@ class Folder:
         self.project = Project(folder, self.machine.platform)
         self.local = {it.name: it for it in self.project.locals}
         self._units = self._found = None
-        self._alike = {}
+        self._alike, self.left = {}, MOST_LINES
 
     def units(self):
         """Returns the records, read once."""
         if self._units is None:
-            paths = [it for it in listed(f"{self.folder}/{self.installed}") if it.endswith(".conf")]
+            paths = [it for it in listed(f"{self.folder}/{self.installed}") if it.endswith(".conf")][:MOST_RECORDS]
             texts = [(f"{self.installed}/{it}", text_of(f"{self.folder}/{self.installed}/{it}")) for it in paths]
             self._units = [Unit(path, text) for path, text in texts if text is not None]
         return self._units
@@ -139,8 +142,10 @@ class Folder:
             text = text_of(f"{self.folder}/{file}")
             if text is None and file not in skipped:
                 continue
+            self.left -= (text or "").count("\n")
             cause = f"its file is skipped: {skipped[file]}" if file in skipped else "" if is_taken else UNTAKEN
-            found.append(Candidate(name, version, "index", file, Description(text or "", file), cause))
+            cause = cause or UNREAD * (self.left < 0)
+            found.append(Candidate(name, version, "index", file, Description("" if cause else text, file), cause))
         return found
 
 

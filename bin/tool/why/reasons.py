@@ -6,6 +6,7 @@ range, what bars it; circles; and what was left out on the way."""
 import os
 
 from tool.why.chain import ORIGINS, has_part, of_constraint, part_of, verb, versions
+from tool.why.facts import UNREAD
 from tool.why.ranges import admits
 from tool.why.texts import listed, some
 
@@ -58,7 +59,8 @@ def there(facts, name):
         elif of:
             yield f"{words}: {some(dict.fromkeys(it.version for it in of), 10)}"
     for why_not, of in grouped(((it.why_not, it) for it in ones if it.why_not)).items():
-        yield f"not taken: {versions(of)}, {why_not}"
+        told = f"{why_not}, as these files are too long: {versions(of)}"
+        yield told if why_not == UNREAD else f"not taken: {versions(of)}, {why_not}"
     if not ones:
         yield from absent(facts, name.package)
     yield from tools_of(facts, name, ones)
