@@ -40,8 +40,9 @@ class Names(Project):
         self.assertNotIn("cabal.project.local", out)
 
     def test_a_version_that_gives_another_plan(self):
-        out = self.says(0, "why", ["text 1.2 can be chosen", "  text: 2.0 source becomes 1.2 source", "proved: both plans"], COMPILER, "text-1.2")
+        out = self.says(0, "why", ["text 1.2 can be chosen", "  text: 2.0 source becomes 1.2 source", "the present one is the first by preference"], COMPILER, "text-1.2")
         self.assertEqual(1, out.count("becomes"))
+        self.says(0, "why", ["neither needs to be the first by preference"], COMPILER, "text-1.2", "--count-conflicts")
         self.says(0, "why", ["split isn't in the plan, also where only 0.2.3 is allowed"], COMPILER, "split-0.2.3")
 
     def test_a_version_that_is_not_there(self):

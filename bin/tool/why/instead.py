@@ -76,12 +76,15 @@ def changes(folder, answer, new, name, version):
         yield f"  {it}"
     if len(told) > MOST_LINES:
         yield f"  and {len(told) - MOST_LINES} more changes"
+    if "--count-conflicts" in folder.words:
+        yield "proved: both plans are complete and valid; with --count-conflicts neither needs to be the first by preference"
+        return
     yield preferred(folder, before.get(name), after.get(name))
-    yield "proved: both plans; the present one is the first by preference"
+    yield "proved: both plans are complete and valid, and the present one is the first by preference"
 
 
 def preferred(folder, old, new):
-    """Returns in words why the present choice comes before the other one."""
+    """Returns in words why the present plan comes before the other one."""
     if old and new and old.endswith("installed") and not new.endswith("installed"):
         return "Without the constraint the installed version comes first."
     if folder.project.of("preferences") or folder.project.of("prefer-oldest"):
