@@ -17,6 +17,8 @@ CODES = {
     "L302": "a folder that is missing or empty",
     "L303": "a file that can't be read",
 }
+# The most words for which a known one is looked up.
+MOST_SPELT = 200
 
 
 class Finding:
@@ -32,7 +34,15 @@ class Finding:
         return {"file": self.file, "line": self.line, "code": self.code, "text": self.text}
 
 
-def nearest(word, known):
-    """Returns the end of a text with the nearest known word, if there is one."""
-    found = difflib.get_close_matches(word[:60], sorted(known), 1, 0.7)
-    return f": did you mean `{found[0]}`?" if found else ""
+class Speller:
+    """Finds the nearest known word, for a limited number of words: more would take long, and nobody reads them."""
+
+    def __init__(self):
+        self.told = {}
+
+    def nearest(self, word, known):
+        """Returns the end of a text with the nearest known word, if there is one."""
+        if word not in self.told and len(self.told) < MOST_SPELT:
+            found = difflib.get_close_matches(word[:60], sorted(known), 1, 0.7)
+            self.told[word] = f": did you mean `{found[0]}`?" if found else ""
+        return self.told.get(word, "")

@@ -84,6 +84,8 @@ UNREAD = {
     (None, "independent-goals"): "nothing: all packages are planned together",
     (None, "cabal-lib-version"): "a constraint on `setup.Cabal`",
 }
+# The same of package files.
+UNREAD_HERE = {"pkgconfig-depends": "a library that is missing doesn't bar a plan", "build-tools": "write `build-tool-depends: PACKAGE:EXECUTABLE`"}
 # The major versions of ghc by those of base.
 COMPILERS = {
     (4, 9): "8.0", (4, 10): "8.2", (4, 11): "8.4", (4, 12): "8.6", (4, 13): "8.8", (4, 14): "8.10", (4, 15): "9.0", (4, 16): "9.2",

@@ -9,7 +9,8 @@ from tool.lint.findings import Finding
 from tool.lint.known import FREE_TEXT
 
 FIELD = re.compile(r"([A-Za-z][A-Za-z0-9-]*)[ \t]*:(?!:)")
-SECTION = re.compile(r"(?:library|custom-setup|(?:library|executable|test-suite|benchmark|foreign-library|flag|common|package|source-repository)[ \t]+[\w.-]+)", re.I)
+NAMED = "library|executable|test-suite|benchmark|foreign-library|flag|common|package|source-repository"
+SECTION = re.compile(rf"(?:library|custom-setup|(?:{NAMED})[ \t]+[\w.-]+|(?:if|elif)[ \t(!]+(?:os|arch|impl|flag)[ \t]*\(.*)", re.I)
 BLANKS = re.compile(r"[ \t]*")
 
 
@@ -47,7 +48,9 @@ def of_swallowed(file, items, text, known):
     lines = text.split("\n")
     for field in (it for it in walk(items) if isinstance(it, Field)):
         for number, told in swallowed(field, lines, known):
-            yield Finding(file, number, "L103", f"`{told}` is read as a part of `{field.name}:` of line {field.line}, since this line is indented more")
+            yield Finding(
+                file, number, "L103", f"`{told}` is read as a part of `{field.name}:` of line {field.line}, since this line is indented more"
+            )
 
 
 def tabs(file, text):

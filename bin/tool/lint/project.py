@@ -1,8 +1,8 @@
 """Findings in the project files: fields, sections, and names that nothing has."""
 
 from tool.elements import Field, entries
-from tool.lint.findings import Finding, nearest
-from tool.lint.known import BRANCHES, OF_PACKAGE, OF_PROGRAM, OF_PROJECT, OF_PROJECT_SECTIONS, UNREAD
+from tool.lint.findings import Finding
+from tool.lint.known import BRANCHES, OF_PROGRAM, OF_PROJECT, OF_PROJECT_SECTIONS, UNREAD
 from tool.lint.layout import of_swallowed, tabs
 from tool.why.packages import Description
 from tool.why.project import EVERY
@@ -13,48 +13,57 @@ KNOWN = OF_PROJECT.union(*OF_PROJECT_SECTIONS.values())
 MOST_FILES = 2000
 
 
-def findings(file, items, text):
-    """Yields the findings in a project file, without those on names."""
-    yield from of_swallowed(file, items, text, KNOWN)
-    yield from tabs(file, text)
-    yield from of_items(file, items, None)
+class ProjectFile:
+    """A project file, and what is wrong with it. Names aren't looked up."""
 
+    def __init__(self, file, items, text, speller):
+        self.file, self.items, self.text, self.nearest = file, items, text, speller.nearest
 
-def of_items(file, items, section):
-    """Yields what is wrong with fields and sections."""
-    for it in items:
-        if isinstance(it, Field):
-            yield from of_field(file, it, section)
-        elif it.name in BRANCHES:
-            yield from of_items(file, it.items, section)
-        elif section is None and it.name in OF_PROJECT_SECTIONS:
-            yield from of_items(file, it.items, it)
-            if it.name == "repository":
-                yield Finding(file, it.line, "L106", "`repository` is unread: `cabal-plan folder` makes the index")
+    def finding(self, it, code, text):
+        return Finding(self.file, it.line, code, text)
+
+    def findings(self):
+        """Yields the findings."""
+        yield from of_swallowed(self.file, self.items, self.text, KNOWN)
+        yield from tabs(self.file, self.text)
+        yield from self.of_items(self.items, None)
+
+    def of_items(self, items, section):
+        """Yields what is wrong with fields and sections."""
+        for it in items:
+            if isinstance(it, Field):
+                yield from self.of_field(it, section)
+            elif it.name in BRANCHES:
+                yield from self.of_items(it.items, section)
+            elif section is None and it.name in OF_PROJECT_SECTIONS:
+                yield from self.of_items(it.items, it)
+                if it.name == "repository":
+                    yield self.finding(it, "L106", "`repository` is unread: `cabal-plan folder` makes the index")
+            else:
+                within = f" in `{section.name}`" if section else ""
+                yield self.finding(it, "L102", f"there is no section `{it.name}`{within}{self.nearest(it.name, OF_PROJECT_SECTIONS)}")
+
+    def of_field(self, field, section):
+        """Yields what is wrong with a field."""
+        kind = section and section.name
+        known = OF_PROJECT_SECTIONS[kind] if kind else OF_PROJECT
+        if (kind, field.name) in UNREAD:
+            yield self.finding(field, "L106", f"`{field.name}:`{f' of `{kind}`' if kind else ''} is unread: write {UNREAD[kind, field.name]}")
+        elif kind is None and field.name in ("tests", "benchmarks") and field.text().strip().lower() == "false":
+            yield self.finding(field, "L106", f"`{field.name}: False` counts as unset: {field.name} are part of the plan where they can be")
+        elif field.name in known or OF_PROGRAM.fullmatch(field.name) or not known or field.name.startswith("x-"):
+            return
+        elif kind == "package" and field.name in OF_PROJECT:
+            yield self.finding(field, "L104", f"`{field.name}:` isn't a field of `package {section.args}`, and isn't read there")
         else:
-            yield Finding(file, it.line, "L102", f"there is no section `{it.name}`{f' in `{section.name}`' if section else ''}{nearest(it.name, OF_PROJECT_SECTIONS)}")
-
-
-def of_field(file, field, section):
-    """Yields what is wrong with a field."""
-    kind = section and section.name
-    known = OF_PROJECT_SECTIONS[kind] if kind else OF_PROJECT
-    if (kind, field.name) in UNREAD:
-        yield Finding(file, field.line, "L106", f"`{field.name}:`{f' of `{kind}`' if kind else ''} is unread: write {UNREAD[kind, field.name]}")
-    elif kind is None and field.name in ("tests", "benchmarks") and field.text().strip().lower() == "false":
-        yield Finding(file, field.line, "L106", f"`{field.name}: False` counts as unset: {field.name} are part of the plan where they can be")
-    elif field.name not in known and not OF_PROGRAM.fullmatch(field.name) and (known or kind is None) and not field.name.startswith("x-"):
-        if kind == "package" and field.name in OF_PROJECT:
-            yield Finding(file, field.line, "L104", f"`{field.name}:` isn't a field of `package {section.args}`, and isn't read there")
-        else:
-            yield Finding(file, field.line, "L101", f"there is no field `{field.name}`{nearest(field.name, known)}")
+            yield self.finding(field, "L101", f"there is no field `{field.name}`{self.nearest(field.name, known)}")
 
 
 class Names:
     """The names of packages and flags that a folder has."""
 
-    def __init__(self, folder):
-        self.folder, self.flags = folder, {}
+    def __init__(self, folder, speller):
+        self.folder, self.flags, self.nearest = folder, {}, speller.nearest
         self.where = f"local, in `{folder.installed}` or in `{folder.index}`"
         self.is_made = is_made(folder)
 
@@ -83,14 +92,14 @@ class Names:
         for flag in constraint.flags() if known is not None else ():
             if flag not in known:
                 text = f"`{constraint.text}` has no effect: no version of {constraint.name} has a flag `{flag}`"
-                yield Finding(constraint.file, constraint.line, "L202", text + (nearest(flag, known) if known else ": it has no flags"))
+                yield Finding(constraint.file, constraint.line, "L202", text + (self.nearest(flag, known) if known else ": it has no flags"))
 
 
-def of_names(folder):
+def of_names(folder, speller):
     """Yields the findings on names: of constraints and preferences, of relaxed bounds, and of sections."""
     if not listed(f"{folder.folder}/{folder.index}") and not folder.units():
         return
-    names, project = Names(folder), folder.project
+    names, project = Names(folder, speller), folder.project
     for field in ("constraints", "preferences"):
         for it in project.constraints(field):
             yield from names.package(it.name, it.file, it.line, f"`{it.text}`")
@@ -110,6 +119,3 @@ def of_relaxed(names, setting, text, line):
         name = stem if stem and version.replace(".", "").isdecimal() else name
         if name.lower() not in (*EVERY, "none", "false"):
             yield from names.package(name, setting.file, line, f"`{text}` of {setting.name}")
-
-
-__all__ = ["OF_PACKAGE", "findings", "of_names"]

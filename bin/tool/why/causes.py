@@ -2,7 +2,10 @@
 
 CAUSES = {
     "NoPackages": ("there is no local package here", "run it in the folder of a package or project, or correct `packages`"),
-    "Unsupported": ("cabal reads this and the planner doesn't", "write it otherwise: entries of `packages` lead down from this folder, without `..`, `**`, braces or `://`"),
+    "Unsupported": (
+        "cabal reads this and the planner doesn't",
+        "write it otherwise: entries of `packages` lead down from this folder, without `..`, `**`, braces or `://`",
+    ),
     "NoMatch": ("an entry of `packages` gives no package", "correct it, or move it to `optional-packages`"),
     "TwoCabalFiles": ("the directory has more than one `.cabal` file", "name the file itself"),
     "BadConstraint": ("an entry can't be read", "write it as NAME RANGE, `NAME +flag`, `NAME installed`, or PACKAGE:NAME in allow-newer"),
@@ -19,7 +22,10 @@ CAUSES = {
     "BadDepend": ("a dependency can't be read", "write NAME RANGE, NAME:LIBRARY, or PACKAGE:EXECUTABLE for a tool"),
     "BadField": ("a value or section isn't allowed here", "correct or move it"),
     "MissingField": ("`cabal-version` isn't the first field, `name` or `version` is missing, or the file is empty", "add it"),
-    "WrongCabalVersion": ("the planner reads `cabal-version` 2.4, 3.0 and 3.4 alone", "state one of these, or plan by `cabal-plan folder --older-headers`"),
+    "WrongCabalVersion": (
+        "the planner reads `cabal-version` 2.4, 3.0 and 3.4 alone",
+        "state one of these, or plan by `cabal-plan folder --older-headers`",
+    ),
     "DuplicateName": ("two components, flags or stanzas have one name", "rename one, or take one out"),
     "UnknownStanza": ("no `common` stanza of this name is in the file", "correct the name of the import"),
     "UnknownFlag": ("no flag of this name is in the file", "declare it, or correct the name"),
@@ -34,4 +40,10 @@ CAUSES = {
     "TooLarge": ("a file has more than 1,048,576 bytes", "shorten it"),
     "TooMany": ("there are more than 20,000 records and files", "take old versions out of the index, or make it by `cabal-plan folder --newest=N`"),
     "BadEvent": ("an event isn't `start`, `completed NUMBER` or `failed NUMBER`", "correct it"),
+}
+# What to do about forms of project files that aren't read, by the first word of the line.
+UNSUPPORTED = {
+    "import": "copy the lines of the imported file into this one",
+    "source-repository-package": "put the package into a folder below this one and name it in `packages`",
+    "flags": "for each package a constraint, such as `constraints: NAME +flag`",
 }

@@ -8,7 +8,7 @@ from tool.why.ranges import admits
 from tool.why.texts import some
 
 ORIGINS = {"index": "in the index", "installed": "installed", "local": "among the local packages"}
-MOST_PASSES, MOST_NAMES = 50, 60
+MOST_PASSES, MOST_NAMES, MOST_SENTENCES = 50, 400, 12
 
 
 class Cause:
@@ -33,7 +33,7 @@ def has_part(ask, one):
 def of_constraint(constraint, one):
     """Returns whether a constraint bars a candidate."""
     if constraint.rest in ("installed", "source"):
-        return one.origin == ("index" if constraint.rest == "installed" else "installed")
+        return (one.origin == "installed") == (constraint.rest == "source")
     told = constraint.range()
     return told is not None and admits(told, one.version) is False
 
@@ -119,10 +119,14 @@ class Chain:
 
     def sentences(self):
         """Returns the reason, or none where this way finds none."""
-        if len(self.variables) > MOST_NAMES:
+        if len(self.variables) > MOST_NAMES or self.facts.folder.left < 0:
             return []
         at = self.contradiction()
-        return [*Telling(self).of(at)] if at else []
+        told = [*Telling(self).of(at)] if at else []
+        if len(told) <= MOST_SENTENCES:
+            return told
+        half = MOST_SENTENCES // 2
+        return [*told[:half], f"(and {len(told) - 2 * half} more steps of this kind)", *told[-half:]]
 
 
 class Telling:
@@ -170,8 +174,11 @@ class Telling:
         """Returns in words who depends on what: candidates with the same range together."""
         found = {}
         for one, ask in pairs:
-            found.setdefault((one.package, ask.text, ask.kind), []).append((one, ask))
-        told = [f"{versions([one for one, _ in them])} {verb(kind, them)} {text} ({them[0][1].place()})" for (_, text, kind), them in found.items()]
+            found.setdefault((one.package, ask.text, ask.kind, f" for {ask.component}" if ask.stanza else ""), []).append((one, ask))
+        told = [
+            f"{versions([one for one, _ in them])} {verb(kind, them)} {text}{of} ({them[0][1].place()})"
+            for (_, text, kind, of), them in found.items()
+        ]
         return some(told, 4)
 
     def state(self, cause):
@@ -203,7 +210,11 @@ class Telling:
             yield f"Because {' and '.join(told)}, there is no plan."
             return
         if not told:
-            told = [self.asked(pairs)] if (pairs := self.wanting(variable)) else [f"`extra-packages` names {package} ({self.chain.extra[variable][0].place()})"]
+            told = (
+                [self.asked(pairs)]
+                if (pairs := self.wanting(variable))
+                else [f"`extra-packages` names {package} ({self.chain.extra[variable][0].place()})"]
+            )
         told += [barred(it.of, of) for it, of in groups if it.kind == "barred"]
         unmet = [one for it, of in groups if it.kind == "unmet" for one in of]
         told += [f"{versions(unmet)} can't be chosen"] if unmet else []
@@ -212,7 +223,13 @@ class Telling:
 
     def wanting(self, variable):
         """Returns the dependencies of what has to be chosen on a variable."""
-        return [(one, ask) for owner, targets in self.chain.asks.items() if owner in self.chain.required for one, asks in targets.get(variable, {}).items() for ask in asks]
+        return [
+            (one, ask)
+            for owner, targets in self.chain.asks.items()
+            if owner in self.chain.required
+            for one, asks in targets.get(variable, {}).items()
+            for ask in asks
+        ]
 
 
 def verb(kind, them):
@@ -230,7 +247,7 @@ def versions(ones):
 
 def barred(constraint, ones=()):
     """Returns a clause on a constraint and what it bars."""
-    return f"`{constraint.text}` ({constraint.place()}) bars {versions(ones) if ones else 'it'}"
+    return f"{constraint.quoted()} bars {versions(ones) if ones else 'it'}"
 
 
 def there(package, ones, ask=None):

@@ -1,12 +1,15 @@
 """`cabal-plan why`: explains why there is no plan, why a package is in it, or why a version isn't."""
 
+import os
 import sys
 
 from tool.ends import WRONG_WORDS, say
-from tool.planner import GAVE_UP, NO_PLAN, PLAN, REFUSED, Planner, Words
+from tool.folder.project import FILES
+from tool.planner import GAVE_UP, NO_PLAN, REFUSED, Planner, Words
+from tool.refusal import Refusal
 from tool.why import conflict, instead, refused, ways
 from tool.why.facts import Folder
-from tool.why.texts import tell
+from tool.why.texts import is_other, tell
 from tool.words import wrong
 
 TEXT = """Without a name it explains why there is no plan, or what a refusal means. With a name it prints the shortest ways
@@ -41,9 +44,10 @@ def main(words):
     of = words_of(words)
     if not checked(of.planning):
         return WRONG_WORDS
-    planner = Planner(of.program, of.planning)
-    answer = planner.plan(".", "--minimize-conflict-set")
+    planner = Planner(of.program and os.path.abspath(of.program), of.planning)
     folder = Folder(".", of.planning)
+    refuse_others(folder)
+    answer = planner.plan(".", "--minimize-conflict-set")
     if answer.status > REFUSED:
         say("cabal-plan why", answer.error.strip() or answer.output.strip() or f"the program ended with status {answer.status}")
         return answer.status
@@ -52,13 +56,24 @@ def main(words):
     elif answer.status == GAVE_UP:
         tell(gave_up(answer))
     elif answer.status == NO_PLAN:
+        tell([f"there is no plan, so {of.name} isn't in one; the reason for that:"] if of.name else [])
         tell(conflict.lines(folder, planner, answer, not of.no_help))
     elif of.name:
         return ways_or_other(of.name, folder, planner, answer)
     else:
-        tell([f"there is a plan, of {len(answer.object['nodes'])} nodes: `cabal-plan plan` prints it, and `cabal-plan why NAME` the ways to a package"])
+        tell(
+            [f"there is a plan, of {len(answer.object['nodes'])} nodes: `cabal-plan plan` prints it, and `cabal-plan why NAME` the ways to a package"]
+        )
+        tell(conflict.silent(folder))
     sys.stdout.flush()
     return answer.status
+
+
+def refuse_others(folder):
+    """Refuses local files for which the program would wait for ever, such as a FIFO."""
+    for path in [*FILES, *folder.project.paths]:
+        if path not in folder.project.texts and is_other(f"{folder.folder}/{path}"):
+            raise Refusal(f"{path} is no regular file, and isn't read")
 
 
 def ways_or_other(text, folder, planner, answer):
@@ -78,6 +93,3 @@ def gave_up(answer):
         f"gave up: {answer.object['exhausted']} goals failed, and the limit was met; there may be a plan, or none",
         "try --count-conflicts, which tries first what fails most often, or --max-backjumps=-1, which takes the limit away",
     ]
-
-
-__all__ = ["PLAN", "main"]

@@ -16,8 +16,14 @@ from tool.why.texts import items_of, listed, text_of
 NAME = re.compile(r"((?:[\w-]+:setup\.|[\w-]+:[\w-]+:exe\.)?)([\w-]+)(?::(.+))?")
 # The packages that aren't taken from the index unless the project says so.
 BOOT = ("base", "ghc-bignum", "ghc-prim", "integer-gmp", "integer-simple", "template-haskell")
+UNTAKEN = "which the index has, and which isn't taken from there, unless `allow-boot-library-installs: True` is set"
 # The most versions of a package that are read, and the most constraints on it that are told.
 MOST_FILES, MOST_CONSTRAINTS = 2000, 500
+# The most lines of package files of the index that are looked into to explain a conflict, and the most records.
+MOST_LINES, MOST_RECORDS = 300_000, 20_000
+UNREAD = "not looked into"
+# The most names for which others that are spelt alike are looked up.
+MOST_ALIKE = 50
 
 
 class Name:
@@ -63,11 +69,12 @@ class Folder:
         self.project = Project(folder, self.machine.platform)
         self.local = {it.name: it for it in self.project.locals}
         self._units = self._found = None
+        self._alike, self.left = {}, MOST_LINES
 
     def units(self):
         """Returns the records, read once."""
         if self._units is None:
-            paths = [it for it in listed(f"{self.folder}/{self.installed}") if it.endswith(".conf")]
+            paths = [it for it in listed(f"{self.folder}/{self.installed}") if it.endswith(".conf")][:MOST_RECORDS]
             texts = [(f"{self.installed}/{it}", text_of(f"{self.folder}/{self.installed}/{it}")) for it in paths]
             self._units = [Unit(path, text) for path, text in texts if text is not None]
         return self._units
@@ -96,11 +103,13 @@ class Folder:
         return self._found
 
     def alike(self, name):
-        """Returns the known names that are spelt alike."""
-        low = name.lower().replace("_", "-")
-        same = [it for it in self.known() if it.lower() == low and it != name]
-        close = difflib.get_close_matches(name, sorted(it for it in self.known() if abs(len(it) - len(name)) <= 2), 3, 0.75)
-        return list(dict.fromkeys([*same, *(it for it in close if it != name)]))[:3]
+        """Returns the known names that are spelt alike. It looks for a limited number of names only."""
+        if name not in self._alike and len(self._alike) < MOST_ALIKE:
+            low = name.lower().replace("_", "-")
+            same = [it for it in self.known() if it.lower() == low]
+            close = difflib.get_close_matches(name[:60], sorted(it for it in self.known() if abs(len(it) - len(name)) <= 2), 3, 0.75)
+            self._alike[name] = [it for it in dict.fromkeys([*same, *close]) if it != name][:3]
+        return self._alike.get(name, [])
 
     def versions_of(self, name):
         """Returns the versions of a name in the index, the latest first."""
@@ -133,8 +142,10 @@ class Folder:
             text = text_of(f"{self.folder}/{file}")
             if text is None and file not in skipped:
                 continue
-            cause = f"its file is skipped: {skipped[file]}" if file in skipped else "" if is_taken else "of the index, and isn't taken from there"
-            found.append(Candidate(name, version, "index", file, Description(text or "", file), cause))
+            self.left -= (text or "").count("\n")
+            cause = f"its file is skipped: {skipped[file]}" if file in skipped else "" if is_taken else UNTAKEN
+            cause = cause or UNREAD * (self.left < 0)
+            found.append(Candidate(name, version, "index", file, Description("" if cause else text, file), cause))
         return found
 
 
@@ -150,13 +161,21 @@ class Facts:
         self.skipped = {it[1]: f"{it[3]}{it[2] and f' at line {it[2][1:]}' or ''}" for it in told if it}
         self.candidates = {name: folder.candidates(name, self.skipped) for name in dict.fromkeys(it.package for it in self.names)}
         self.certain, self.by_target = set(), {}
-        self.asks = [(owner, target, one, ask) for owner in self.packages for one, ask in self.of_owner(owner) for target in [self.target(owner, ask)] if target]
+        self.asks = [
+            (owner, target, one, ask)
+            for owner in self.packages
+            for one, ask in self.of_owner(owner)
+            for target in [self.target(owner, ask)]
+            if target
+        ]
         for owner, target, one, ask in self.asks:
             self.by_target.setdefault(target, []).append((one, ask))
 
     def target(self, owner, ask):
         """Returns the variable of the conflict to which a dependency leads, or none."""
-        name = {"setup": f"{owner.package}:setup.{ask.name}", "tool": f"{owner.package}:{ask.name}:exe.{ask.name}"}.get(ask.kind, owner.qualifier + ask.name)
+        name = {"setup": f"{owner.package}:setup.{ask.name}", "tool": f"{owner.package}:{ask.name}:exe.{ask.name}"}.get(
+            ask.kind, owner.qualifier + ask.name
+        )
         return name if name in self.known else None
 
     def of_owner(self, owner):

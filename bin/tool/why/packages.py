@@ -40,11 +40,11 @@ class Description:
     """A package file: `asks` are its dependencies."""
 
     def __init__(self, text, file):
-        self.file, self.items = file, items_of(text)
-        top = {it.name: it for it in self.items if isinstance(it, Field)}
+        self.file, items = file, items_of(text)
+        top = {it.name: it for it in items if isinstance(it, Field)}
         self.name, self.version = (top[it].text().strip() if it in top else "" for it in ("name", "version"))
         self.version_line = top["version"].line if "version" in top else 1
-        sections = [it for it in self.items if isinstance(it, Section)]
+        sections = [it for it in items if isinstance(it, Section)]
         self.flags = {it.args.lower(): it for it in sections if it.name == "flag"}
         self.executables = [it.args.strip('"') for it in sections if it.name == "executable"]
         self.libraries = [it.args for it in sections if it.name == "library"]

@@ -29,11 +29,15 @@ class Constraint:
     """An entry of `constraints`, or what says the same: where it stands, the scope, the package, and what is left of it."""
 
     def __init__(self, text, where, told, field=None):
-        self.text, (self.file, self.line), self.field = text, where, field
+        self.text, (self.file, self.line), self.field, self.is_asked = text, where, field, False
         self.scope, self.name, self.rest = told[1] or "", told[2], " ".join(told[3].split())
 
     def place(self):
         return f"{self.file}:{self.line}"
+
+    def quoted(self):
+        """Returns it in words, with its place, unless the words of this run ask for it."""
+        return f"{self.name} {self.rest}, as asked," if self.is_asked else f"`{self.text}` ({self.place()})"
 
     def flags(self):
         """Returns the flags that it sets, in lower case, each with whether it is on."""
@@ -74,7 +78,8 @@ class Project:
         self.texts = {it: text for it in FILES for text in [text_of(f"{folder}/{it}")] if text is not None}
         self.items = {file: items_of(text) for file, text in self.texts.items()}
         self.settings = [it for file, items in self.items.items() for it in settings_in(items, file, platform)]
-        self.paths = list(dict.fromkeys(path for _, _, _, paths in self.members() for path in paths))
+        self.members = list(self.of_members())
+        self.paths = list(dict.fromkeys(path for _, _, _, paths in self.members for path in paths))
         self._constraints, self._relaxers = {}, None
         self.read_locals()
 
@@ -91,12 +96,14 @@ class Project:
         """Returns the settings of this name."""
         return [it for it in self.settings if it.name == name and (it.section and it.section[0]) == section]
 
-    def members(self):
+    def of_members(self):
         """Yields the entries of packages: the entry, its field, its place and the local files that it gives."""
-        told = [it for name in ("packages", "optional-packages") for it in self.of(name)]
+        told, found = [it for name in ("packages", "optional-packages") for it in self.of(name)], {}
         for it in told:
             for entry, line in names(it.field):
-                yield entry, it, f"{it.file}:{line}", [] if REFUSED.search(entry) else of_entry(self.folder, entry)
+                if entry not in found:
+                    found[entry] = [] if REFUSED.search(entry) else of_entry(self.folder, entry)
+                yield entry, it, f"{it.file}:{line}", found[entry]
         if "cabal.project" not in self.texts:
             yield "*.cabal", None, "", of_entry(self.folder, "./*.cabal")
 
@@ -110,7 +117,13 @@ class Project:
 
     def constraints(self, name="constraints"):
         """Returns the constraints, and the flags of sections `package NAME`."""
-        found = [Constraint(text, (it.file, line), told, it.field) for it in self.of(name) for text, line in entries(it.field) for told in [SCOPE.fullmatch(text)] if told]
+        found = [
+            Constraint(text, (it.file, line), told, it.field)
+            for it in self.of(name)
+            for text, line in entries(it.field)
+            for told in [SCOPE.fullmatch(text)]
+            if told
+        ]
         if name == "constraints":
             for it in self.of("flags", "package"):
                 for text, line in names(it.field):

@@ -11,19 +11,26 @@ from tool.why.chain import has_part, of_constraint
 from tool.why.edits import replaced, with_entries, with_line, without_field
 from tool.why.facts import BOOT, Facts, Folder
 from tool.why.ranges import admits
-from tool.why.reasons import circles
+from tool.why.reasons import circles, default_of
 from tool.why.room import copy_of
 
 LOCAL, FREEZE = "cabal.project.local", "cabal.project.freeze"
 # How many changes are tried, for how long, how many are printed, and how many first steps get a second one.
 MOST_TRIED, MOST_SECONDS, MOST_PRINTED, MOST_FIRST = 32, 20, 5, 4
+# The most changes that are listed at all.
+MOST_LISTED = 200
 
 
 class Change:
-    """A change: what to do, the changed texts by path, and the package whose choice is told."""
+    """A change: what to do, what makes the changed texts by path, and the package whose choice is told."""
 
-    def __init__(self, text, changes, package=""):
-        self.text, self.changes, self.package = text, changes, package
+    def __init__(self, text, make, package=""):
+        self.text, self.make, self.package = text, make, package
+
+    def texts(self):
+        """Returns the changed texts by path, none for a file that is left out; or none where the layout isn't a plain one."""
+        found = self.make()
+        return found if found is not None and (None not in found.values() or found.keys() <= {LOCAL, FREEZE}) else None
 
 
 class Options:
@@ -34,12 +41,21 @@ class Options:
 
     def all(self):
         """Returns the changes, each once."""
-        found = [*self.renamed(), *self.dropped(), *self.widened(), *self.tools(), *self.stanzas(), *self.relaxed(), *self.opened(), *self.files(), *self.boot()]
-        return list({it.text: it for it in found if None not in it.changes.values() or it.changes.keys() <= {LOCAL, FREEZE}}.values())
+        kinds = (self.renamed, self.dropped, self.widened, self.tools, self.stanzas, self.flagged, self.relaxed, self.opened, self.files, self.boot)
+        found = {}
+        for it in (it for kind in kinds for it in kind()):
+            found.setdefault(it.text, it)
+            if len(found) >= MOST_LISTED:
+                break
+        return list(found.values())
 
     def in_field(self, file, field, old, new):
-        """Returns the changed text of a file in which an entry of a field is another one, or is left out."""
-        return {file: with_entries(self.project.texts[file], field, replaced(entries(field), old, new))}
+        """Returns what makes the changed text of a file in which an entry of a field is another one, or is left out."""
+        return lambda: {file: with_entries(self.project.texts[file], field, replaced(entries(field), old, new))}
+
+    def with_setting(self, line):
+        """Returns what makes the local settings with one more line."""
+        return lambda: {LOCAL: with_line(self.project.texts.get(LOCAL, ""), line)}
 
     def of_locals(self):
         """Yields the dependencies that stand in local packages, with the variable to which they lead."""
@@ -71,14 +87,13 @@ class Options:
         told = {it.file for name in self.facts.packages for it in self.facts.constraints(name)}
         for file, words in ((FREEZE, "remove this freeze file, or freeze anew"), (LOCAL, "remove this file")):
             if file in told:
-                yield Change(f"{file}: {words}", {file: None})
+                yield Change(f"{file}: {words}", lambda file=file: {file: None})
 
     def widened(self):
         """Yields dependencies of local packages with any version."""
         for name, ask in self.of_locals():
             there = [it for it in self.facts.candidates[name.package] if not it.why_not]
             if ask.range and any(admits(ask.range, it.version) is not True for it in there):
-                new = (ask.entry[0][: len(ask.entry[0].rstrip()) - len(ask.entry[0].rstrip()) or None], ask.line)
                 new = (ask.text[: len(ask.text) - len(ask.range)].strip(), ask.line)
                 yield Change(f"{ask.place()}: widen `{ask.text}`", self.in_field(ask.file, ask.field, ask.entry, new), name.package)
 
@@ -88,25 +103,41 @@ class Options:
             there = [it for it in self.facts.candidates[name.package] if not it.why_not and it.description] if ask.kind == "tool" else []
             for other in dict.fromkeys(text for it in there if not has_part(ask, it) for text in it.description.executables):
                 new = (f"{ask.name}:{other} {ask.range}".strip(), ask.line)
-                yield Change(f"{ask.place()}: write `{ask.name}:{other}` in place of `{ask.name}:{ask.part}`", self.in_field(ask.file, ask.field, ask.entry, new))
+                yield Change(
+                    f"{ask.place()}: write `{ask.name}:{other}` in place of `{ask.name}:{ask.part}`",
+                    self.in_field(ask.file, ask.field, ask.entry, new),
+                )
 
     def stanzas(self):
         """Yields `tests` and `benchmarks` unset, where the conflict has them."""
         for part, field in (("*test", "tests"), ("*bench", "benchmarks")):
             for it in self.project.of(field) if any(name.part == part for name in self.facts.names) else []:
-                yield Change(f"{it.file}:{it.field.line}: drop `{field}: {it.field.text()}`", {it.file: without_field(self.project.texts[it.file], it.field)})
+                make = lambda it=it: {it.file: without_field(self.project.texts[it.file], it.field)}
+                yield Change(f"{it.file}:{it.field.line}: drop `{field}: {it.field.text()}`", make)
+
+    def flagged(self):
+        """Yields flags of the conflict with the value that isn't their default, where no constraint sets them."""
+        for name in (it for it in self.facts.names if it.part and it.part[0] != "*"):
+            ones = [it for it in self.facts.candidates.get(name.package, []) if it.description and name.part.lower() in it.description.flags]
+            if ones and not any(name.part.lower() in it.flags() for it in self.project.on(name.package)):
+                is_on = default_of(ones[0].description.flags[name.part.lower()])
+                line = f"constraints: {name.qualifier if name.qualifier.endswith('setup.') else ''}{name.package} {'-' if is_on else '+'}{name.part}"
+                yield Change(f"{LOCAL}: add `{line}`", self.with_setting(line))
 
     def relaxed(self):
         """Yields bounds of packages of the index that are relaxed."""
         names = {it.text: it for it in self.facts.packages}
+        seen = {}
         for _, target, one, ask in self.facts.asks:
-            there = [it for it in self.facts.candidates[names[target].package] if not it.why_not]
-            if one.origin != "index" or ask.kind == "tool" or not any(admits(ask.range, it.version) is False for it in there):
+            if one.origin == "index" and ask.kind != "tool":
+                seen.setdefault((names[target].package, one.package, ask.range), (one, ask))
+        for (package, _, _), (one, ask) in seen.items():
+            if not any(admits(ask.range, it.version) is False for it in self.facts.candidates[package] if not it.why_not):
                 continue
             for field, marks in (("allow-newer", "<="), ("allow-older", ">=")):
                 if any(it in ask.range for it in marks):
                     line = f"{field}: {one.package}:{ask.name}"
-                    yield Change(f"cabal.project: add `{line}`", {LOCAL: with_line(self.project.texts.get(LOCAL, ""), line)}, ask.name)
+                    yield Change(f"{LOCAL}: add `{line}`", self.with_setting(line), ask.name)
 
     def opened(self):
         """Yields circles that are opened by leaving out a dependency of a local package."""
@@ -120,7 +151,7 @@ class Options:
         ones = [it for name in self.facts.packages for it in self.facts.candidates[name.package]]
         if any(it.origin == "index" and it.package in BOOT and it.why_not for it in ones):
             line = "allow-boot-library-installs: True"
-            yield Change(f"cabal.project: add `{line}` (builds the compiler's own library anew)", {LOCAL: with_line(self.project.texts.get(LOCAL, ""), line)})
+            yield Change(f"{LOCAL}: add `{line}` (builds the compiler's own library anew)", self.with_setting(line))
 
 
 class Trial:
@@ -138,8 +169,11 @@ class Trial:
             if self.is_over():
                 self.left += 1
                 continue
+            texts = it.texts()
+            if texts is None:
+                continue
             self.tried += 1
-            answer = self.copy.answer({**(first.changes if first else {}), **it.changes})
+            answer = self.copy.answer({**(first.texts() if first else {}), **texts})
             if answer.status == PLAN:
                 self.found.append(f"{f'{first.text}; and ' if first else ''}{it.text}{chosen(answer, it.package)}")
             elif answer.status == NO_PLAN:
@@ -150,7 +184,7 @@ class Trial:
         for first in self.failed[:MOST_FIRST]:
             if self.is_over():
                 return
-            answer = self.copy.answer(first.changes, "--minimize-conflict-set")
+            answer = self.copy.answer(first.texts(), "--minimize-conflict-set")
             if answer.status == NO_PLAN:
                 folder = Folder(self.copy.room.path, self.copy.folder.words)
                 self.run(Options(Facts(folder, answer.object["conflict"], answer.object["skipped"])).all(), first)
@@ -174,7 +208,6 @@ def lines(planner, facts):
         if not trial.found:
             trial.run_twice()
     yield from (f"help: {it}" for it in trial.found)
-    if trial.left and not trial.found:
-        yield f"note: {trial.tried} changes were tried, and none gives a plan; {trial.left} more were not tried"
-    elif trial.tried and not trial.found:
-        yield f"note: {trial.tried} changes were tried, such as other bounds, and none gives a plan"
+    if not trial.found and trial.tried:
+        count = "one change was" if trial.tried == 1 else f"{trial.tried} changes were"
+        yield f"note: {count} tried, and none gives a plan{f'; {trial.left} more were not tried' if trial.left else ''}"

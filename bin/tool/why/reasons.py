@@ -6,10 +6,11 @@ range, what bars it; circles; and what was left out on the way."""
 import os
 
 from tool.why.chain import ORIGINS, has_part, of_constraint, part_of, verb, versions
+from tool.why.facts import UNREAD
 from tool.why.ranges import admits
 from tool.why.texts import listed, some
 
-MOST_LINES = 8
+MOST_LINES, MOST_NAMES = 8, 40
 MADE = ".plan-folder"
 
 
@@ -17,6 +18,17 @@ def headline(answer, names):
     """Returns the line that says what is proved."""
     told = some(names, 12)
     return f"no plan: {told} can't be chosen together" if len(names) > 1 else f"no plan: {told} can't be chosen"
+
+
+def of_names(facts):
+    """Yields the lines on the names of a conflict. Where there are too many, those that lack a file come last."""
+    names = facts.names
+    if len(names) > MOST_NAMES:
+        names = sorted(names, key=lambda it: not facts.candidates.get(it.package))
+    for name in names[:MOST_NAMES]:
+        yield from of_name(facts, name)
+    if len(names) > MOST_NAMES:
+        yield f"and {len(names) - MOST_NAMES} more names"
 
 
 def of_name(facts, name):
@@ -47,7 +59,8 @@ def there(facts, name):
         elif of:
             yield f"{words}: {some(dict.fromkeys(it.version for it in of), 10)}"
     for why_not, of in grouped(((it.why_not, it) for it in ones if it.why_not)).items():
-        yield f"not taken: {versions(of)}, {why_not}"
+        told = f"{why_not}, as these files are too long: {versions(of)}"
+        yield told if why_not == UNREAD else f"not taken: {versions(of)}, {why_not}"
     if not ones:
         yield from absent(facts, name.package)
     yield from tools_of(facts, name, ones)
@@ -58,11 +71,11 @@ def absent(facts, package):
     folder = facts.folder
     alike = folder.alike(package)
     where = f"{folder.index}/{package}"
-    yield f"there is no {package}: no file of it in the index ({where}), no record of it in {folder.installed}, and no local package of this name"
+    yield f"there is no {package}: no file of it in the index ({where}), no record in {folder.installed}, and no local package of this name"
     if alike:
         yield f"spelt alike: {some(alike)}"
     elif is_made(folder):
-        yield f"`{folder.index}` was made by `cabal-plan folder`, and has what the project reached then: run it again if {package} is new in the project"
+        yield f"`{folder.index}` was made by `cabal-plan folder` and has what the project reached then: run it again if {package} is new"
 
 
 def is_made(folder):
@@ -77,7 +90,9 @@ def tools_of(facts, name, ones):
         lacking = [it for it in ones if not it.why_not and not has_part(ask, it)]
         if not lacking:
             continue
-        has = dict.fromkeys(it for one in lacking if one.description for it in (one.description.executables if ask.kind == "tool" else one.description.libraries))
+        has = dict.fromkeys(
+            it for one in lacking if one.description for it in (one.description.executables if ask.kind == "tool" else one.description.libraries)
+        )
         kind = "executables" if ask.kind == "tool" else "libraries"
         told = f"it has {some(it or 'the main library' for it in has)}" if has else f"it has no {kind}"
         yield f"{versions(lacking)} {'declares' if len(lacking) == 1 else 'declare'} no {part_of(ask)}: {told}"
@@ -100,7 +115,7 @@ def asked(facts, name):
             yield f"and {len(told) - MOST_LINES} more ranges"
             return
         one, ask = them[0]
-        relaxed = ask.owner and facts.folder.project.relaxed(owner, name.package)
+        relaxed = ask.owner and ask.range and facts.folder.project.relaxed(owner, name.package)
         note = f"; bounds may be relaxed by {relaxed}" if relaxed else left(facts, name, ask)
         yield f"{ask.place()}: {versions([it for it, _ in them])} {verb(kind, them)} {text}{under}{note}"
 
@@ -121,7 +136,7 @@ def barring(facts, name):
     told = [(it, of) for it in facts.constraints(name) for of in [[one for one in there if of_constraint(it, one)]] if of]
     for it, of in told[:MOST_LINES]:
         what = f"all of {versions(of)}" if len(of) == len(there) > 1 else versions(of)
-        yield f"{it.place()}: the constraint `{it.text}` bars {what}{origin_of(it.file)}"
+        yield f"{it.quoted()} bars {what}" if it.is_asked else f"{it.place()}: the constraint `{it.text}` bars {what}{origin_of(it.file)}"
     for it in facts.extras(name)[:MOST_LINES]:
         yield f"{it.place()}: `extra-packages` asks for {it.text}"
 
@@ -158,11 +173,16 @@ def of_part(facts, name):
             yield f"{it.place()}: `{it.text}` sets it {'on' if it.flags()[name.part.lower()] else 'off'}{origin_of(it.file)}"
 
 
+def default_of(section):
+    """Returns whether a flag is on by default."""
+    return not any(it.name == "default" and it.text().strip().lower() == "false" for it in section.items if hasattr(it, "values"))
+
+
 def flag_of(one, flag):
     """Returns the line on a flag of a candidate."""
     section = one.description.flags[flag]
     of = {it.name: it.text().strip().lower() for it in section.items if hasattr(it, "values")}
-    default = "off" if of.get("default") == "false" else "on"
+    default = "on" if default_of(section) else "off"
     manual = ", and manual: only a constraint gives it the other value" if of.get("manual") == "true" else ""
     return f"{one.file}:{section.line}: a flag of {one}, by default {default}{manual}"
 
@@ -215,5 +235,7 @@ def notes(folder):
         elif not os.path.isdir(whole):
             found.append(f"there is no folder `{path}`: it counts as an empty one; `cabal-plan folder` makes `index` and `installed`")
         elif not any(it.endswith(".conf") for it in listed(whole)) if word == "installed" else not listed(whole):
-            found.append(f"the folder `{path}` has no {'records' if word == 'installed' else 'packages'}; `cabal-plan folder` makes `index` and `installed`")
+            found.append(
+                f"the folder `{path}` has no {'records' if word == 'installed' else 'packages'}; `cabal-plan folder` makes `index` and `installed`"
+            )
     return found

@@ -57,7 +57,12 @@ def missing_comma(field, all_, at):
         one, other = entry[: it.start()], entry[it.end() :]
         place = next((line for value, line in zip(field.values, field.lines) if line > number and value.startswith(other.split(" ")[0])), number)
         where = f" at line {place}" if place != number else ""
-        yield f"a comma is missing in front of `{other.split(' ')[0]}`{where}: write `{one}, {other}`", [*all_[:at], (one, number), (other, place), *all_[at + 1 :]]
+        yield f"a comma is missing in front of `{other.split(' ')[0]}`{where}: write `{one}, {other}`", [
+            *all_[:at],
+            (one, number),
+            (other, place),
+            *all_[at + 1 :],
+        ]
 
 
 def as_constraint(all_, at):

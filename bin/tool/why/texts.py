@@ -31,6 +31,15 @@ def data_of(path):
         os.close(handle)
 
 
+def is_other(path):
+    """Returns whether there is something at a path that is no regular file and no folder."""
+    try:
+        mode = os.stat(path).st_mode
+    except (OSError, ValueError):
+        return False
+    return not stat.S_ISREG(mode) and not stat.S_ISDIR(mode)
+
+
 def text_of(path):
     """Returns the text of a file, or none. Bytes that aren't UTF-8 are replaced."""
     found = data_of(path)

@@ -1,10 +1,13 @@
 """The shortest ways from local packages to a package of the plan.
 
-In: the plan's nodes and a name, with a version or without. Out: one way for each local component, the shortest first."""
+In: the plan's nodes and a name, with a version or without. Out: one way for each local component, the shortest first; or
+who names the package, where it isn't in the plan."""
 
 import re
 
-from tool.why.texts import some
+from tool.why.force import flags_in
+from tool.why.packages import Description
+from tool.why.texts import some, text_of
 
 NAMED = re.compile(r"(.+?)-([0-9]+(?:\.[0-9]+)*)")
 MOST_WAYS = 10
@@ -58,24 +61,40 @@ def shortest(nodes, name, version):
     return open_, following
 
 
-def lines(_folder, answer, name, version):
+def unused(folder, answer, name):
+    """Yields the dependencies on a package that isn't in the plan: they stand under conditions that don't hold."""
+    values = {it["var"]: it["value"] for it in answer.object["choices"]}
+    for package in dict.fromkeys(it["package"] for it in answer.object["nodes"] if it["kind"] != "installed"):
+        owner, version = split(package)
+        file = f"{folder.index}/{owner}/{version}/{owner}.cabal"
+        of = folder.local.get(owner) or Description(text_of(f"{folder.folder}/{file}") or "", file)
+        for ask in (it for it in of.asks if it.name == name):
+            told = [f"{owner}:{it}" for it in [*sorted(flags_in(ask.conditions)), *([ask.stanza] if ask.stanza else [])]]
+            flags = [f"{it} is {values[it]}" for it in told if it in values]
+            yield f"  {ask.place()}: {owner} {version} names {ask.text}{ask.under()}, which isn't in force{f': {some(flags)}' if flags else ''}"
+
+
+def lines(folder, answer, name, version):
     """Returns the status and the lines for a name."""
     nodes = answer.object["nodes"]
     order, following = shortest(nodes, name, version)
     if not order:
         there = dict.fromkeys(split(it["package"])[0] for it in nodes)
         alike = [it for it in there if it.lower() == name.lower()] or [it for it in there if name.lower() in it.lower()]
-        return 1, [f"{name} isn't in the plan{f': there is {some(alike)}' if alike else ': no chosen package needs it'}"]
+        named = list(unused(folder, answer, name))[:MOST_WAYS]
+        why = ", though these name it:" if named else f": there is {some(alike)}" if alike else ": no chosen package names it"
+        return 1, [f"{name} isn't in the plan{why}", *named]
     found = []
     for at in (it for it in order if nodes[it]["kind"] == "local"):
         way = [at]
         while following[way[-1]] is not None:
             way.append(following[way[-1]])
         found.append(" -> ".join(label(nodes[it], it == way[-1]) for it in way))
-    ways = [it for it in dict.fromkeys(found) if " -> " in it] or found
+    ways = [it for it in dict.fromkeys(found) if " -> " in it]
     versions = dict.fromkeys(split(nodes[at]["package"])[1] for at in order if split(nodes[at]["package"])[0] == name)
-    head = f"{name} {some(versions)} is in the plan"
+    told = " is local, and so it" if name in folder.local else ""
+    head = f"{name} {some(versions)}{told} is in the plan"
     if not ways:
-        return 0, [f"{head}, and no local component leads to it: it is of extra-packages"]
+        return 0, [head if told else f"{head}, and no local component leads to it: it is of extra-packages"]
     more = [f"and {len(ways) - MOST_WAYS} more ways"] * (len(ways) > MOST_WAYS)
     return 0, [head, *(f"  {it}" for it in ways[:MOST_WAYS]), *more]
