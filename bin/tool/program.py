@@ -10,6 +10,8 @@ import re
 from tool.refusal import Refusal, read
 
 TOP = os.path.dirname(os.path.dirname(os.path.dirname(os.path.realpath(__file__))))
+# The command that users call.
+FRONT = f"{TOP}/bin/cabal-plan"
 PROGRAM = "cabal_plan"
 # Outside the checkout: checkouts of the same sources share it, and the gate doesn't find it.
 OUT = f"{os.environ.get('XDG_CACHE_HOME') or os.path.expanduser('~/.cache')}/cabal-plan"

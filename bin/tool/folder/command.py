@@ -6,12 +6,16 @@ import shlex
 import sys
 
 from tool.folder.folder import made_folder
+from tool.folder.made import INDEX, INSTALLED
 from tool.folder.plan import run, still_skipped
 from tool.planner import Words
-from tool.program import TOP
+from tool.program import FRONT
 from tool.refusal import Refusal, escaped
+from tool.words import PATH
 
 COMMANDS = ("plan", "freeze", "replay")
+# The words of the plan that name a path of the project.
+PLACES = ("--index=", "--installed=", "--events=")
 TEXT = """Run it in the folder of a project. It sets the link `installed` to the records of the compiler and of cabal's
 store, and the link `index` to the packages that the project can reach. It prints the words to plan with. Its
 files are in `.plan-folder`, and it changes no other file of the project. Messages go to standard error.
@@ -47,20 +51,39 @@ def words_of(given):
 
 def plan_words(program, environment, further):
     """Returns the words to plan with: those behind `--` may begin with another command."""
-    command, rest = (further[0], further[1:]) if further[:1] and further[0] in COMMANDS else ("plan", further)
+    command, rest = split(further)
     return [program, command, *environment, *rest]
+
+
+def split(further):
+    """Returns the command of the words behind `--`, and the rest of them."""
+    return (further[0], further[1:]) if further[:1] and further[0] in COMMANDS else ("plan", further)
+
+
+def named_paths(further):
+    """Returns the paths in the project that the words of the plan name, but for those that the tool makes."""
+    command, rest = split(further)
+    given = dict(it.split("=", 1) for it in rest if it.startswith(PLACES) and PATH.fullmatch(it.split("=", 1)[1]))
+    found = [given.get("--index"), given.get("--installed"), given.get("--events", "events") if command == "replay" else None]
+    return [it for it in dict.fromkeys(found) if it and it not in (INDEX, INSTALLED)]
+
+
+def printed(words):
+    return " ".join(map(shlex.quote, words))
 
 
 def main(words):
     asked, further = words_of(words)
-    program = os.path.abspath(asked.program or f"{TOP}/bin/cabal-plan")
+    program = os.path.abspath(asked.program or FRONT)
     if not os.path.isfile(program) or not os.access(program, os.X_OK):
         raise Refusal(f"there is no program {program}")
-    where, environment = made_folder(os.getcwd(), asked, say)
+    where, environment = made_folder(os.getcwd(), asked, named_paths(further), say)
     told = plan_words(program, environment, further)
     if asked.run:
         return run(told, where, say if asked.older_headers else None)
     if asked.older_headers and asked.program:
         still_skipped(plan_words(program, environment, []), where, say)
-    print(" ".join((["cd", shlex.quote(where), "&&"] if where != "." else []) + [shlex.quote(it) for it in told]))
+    # Copies go out of date, so the words make them anew.
+    given = words[: words.index("--")] if "--" in words else words
+    print(printed(told if where == "." else [FRONT, "folder", *given, "--run", *(["--", *further] if further else [])]))
     return 0

@@ -12,7 +12,7 @@ import subprocess
 import sys
 
 from tool.folder.conditions import Platform
-from tool.folder.project import holding
+from tool.folder.project import holding, repository
 from tool.refusal import Refusal, shown
 
 SYSTEMS = {"darwin": "osx", "mingw32": "windows", "win32": "windows", "cygwin32": "windows", "kfreebsdgnu": "freebsd", "solaris2": "solaris"}
@@ -86,12 +86,7 @@ def chosen(project, given):
 
 def is_inside(path, project):
     """Returns whether a path leads into a project, or into the repository that has the project."""
-    top = os.path.realpath(project)
-    at = top
-    while at != os.path.dirname(at):
-        if os.path.lexists(f"{at}/.git"):
-            top = at
-        at = os.path.dirname(at)
+    top = repository(project) or os.path.realpath(project)
     return os.path.commonpath([top, os.path.realpath(path)]) == top
 
 
