@@ -1,6 +1,6 @@
 """A line that shows how far a long reading is, on a terminal alone. It is gone at the end."""
 
-import os
+import shutil
 import sys
 import time
 
@@ -21,7 +21,7 @@ class Progress:
     def at(self, place):
         """Shows that the reading is at this byte."""
         if self.next is not None and time.monotonic() >= self.next:
-            width = max(os.get_terminal_size(sys.stderr.fileno()).columns - 8, 8)
+            width = max((shutil.get_terminal_size().columns or 80) - 8, 8)
             self.print(f"{CLEAR}{self.text[-width:]} {100 * place // self.size:>3} %")
             self.next, self.is_shown = time.monotonic() + EACH, True
 
