@@ -10,6 +10,40 @@ from tool.refusal import Refusal, escaped
 # The status of wrong words, and that of a script that fails or refuses.
 WRONG_WORDS, FAILED = 64, 70
 BY_SIGNAL = 128
+# The signals that ask a script to end.
+ENDING = (signal.SIGINT, signal.SIGTERM, signal.SIGHUP)
+
+
+class Signalled(BaseException):
+    """A signal that ends the script."""
+
+    def __init__(self, number):
+        super().__init__(number)
+        self.number = number
+
+
+def on_signal(number, _):
+    """Ends the script. What it has made for itself is removed on the way, and further signals don't interrupt that."""
+    for it in ENDING:
+        signal.signal(it, signal.SIG_IGN)
+    raise Signalled(number)
+
+
+def take_signals():
+    """Lets signals end the script in order, except those that the caller ignores."""
+    for it in ENDING:
+        if signal.getsignal(it) in (signal.SIG_DFL, signal.default_int_handler):
+            signal.signal(it, on_signal)
+
+
+def uncaught(kind, error, trace):
+    """Ends a script that is interrupted before its main function runs."""
+    if issubclass(kind, (KeyboardInterrupt, Signalled)):
+        os._exit(BY_SIGNAL + getattr(error, "number", signal.SIGINT))
+    sys.__excepthook__(kind, error, trace)
+
+
+sys.excepthook = uncaught
 
 
 def say(name, text):
@@ -44,9 +78,9 @@ def status_of(name, main, prints):
         if sys.stdout is not None:
             sys.stdout.flush()
         return status
-    except KeyboardInterrupt:
+    except Signalled as ending:
         say(name, "ended; what was made before stays")
-        return BY_SIGNAL + signal.SIGINT
+        return BY_SIGNAL + ending.number
     except BrokenPipeError:
         say(name, "nobody reads standard output any more")
     except Exception as error:  # pylint: disable=broad-except
@@ -56,6 +90,7 @@ def status_of(name, main, prints):
 
 def ended(name, main, prints=True):
     """Runs a script's main function and ends the script."""
+    take_signals()
     try:
         status = status_of(name, main, prints)
     except SystemExit as end:

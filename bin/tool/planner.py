@@ -6,7 +6,8 @@ import argparse
 import json
 import subprocess
 
-from tool.ends import WRONG_WORDS, status_of_program
+from tool import asked
+from tool.ends import status_of_program
 from tool.program import built_program
 from tool.refusal import Refusal, shown
 from tool.words import OPTIONS
@@ -48,14 +49,11 @@ class Planner:
         return Answer(status_of_program(ran.returncode), ran.stdout.decode("utf-8", "replace"), ran.stderr.decode("utf-8", "replace"))
 
 
-class Words(argparse.ArgumentParser):
-    """The options of a word of this tool. Wrong ones end it with 64. Options aren't abbreviated."""
+class Words(asked.Words):
+    """The options of a word of this tool."""
 
     def __init__(self, word, **how):
-        super().__init__(prog=f"cabal-plan {word}", allow_abbrev=False, formatter_class=argparse.RawDescriptionHelpFormatter, **how)
-
-    def error(self, message):
-        self.exit(WRONG_WORDS, f"{self.prog}: {message}; --help lists the options\n")
+        super().__init__(f"cabal-plan {word}", how.pop("description", None), **how)
 
     def add_planning(self):
         """Adds the options of `plan` that are handed on to the program, and the program."""

@@ -1,10 +1,10 @@
 """`cabal-plan folder`: prepares a cabal project for the planner."""
 
-import argparse
 import os
 import shlex
 import sys
 
+from tool.asked import number
 from tool.folder.folder import made_folder
 from tool.folder.made import INDEX, INSTALLED
 from tool.folder.plan import run, still_skipped
@@ -28,13 +28,6 @@ def say(text, *lines):
     print(f"cabal-plan folder: {escaped(text)}", *lines, sep="\n", file=sys.stderr, flush=True)
 
 
-def versions(text):
-    """Returns how many versions to keep."""
-    if not text.isdecimal() or not 0 < int(text) < 10**9:
-        raise argparse.ArgumentTypeError("it takes a number from 1")
-    return int(text)
-
-
 def words_of(given):
     """Returns the options, and the words of the plan."""
     at = given.index("--") if "--" in given else len(given)
@@ -43,7 +36,7 @@ def words_of(given):
     parser.add_argument("--with-compiler", metavar="PATH", help="the ghc; else what the project says, or the one on the PATH")
     parser.add_argument("--no-store", action="store_true", help="leaves out the records of cabal's store")
     parser.add_argument("--older-headers", action="store_true", help="rewrites copies of files with another header so that they are read")
-    parser.add_argument("--newest", metavar="N", type=versions, help="keeps the N newest versions of each name")
+    parser.add_argument("--newest", metavar="N", type=number(1), help="keeps the N newest versions of each name")
     parser.add_argument("--run", action="store_true", help="plans at once")
     parser.add_argument("--program", metavar="PATH", help="the planner; else bin/cabal-plan of this repository")
     return parser.parse_args(given[:at]), given[at + 1 :]
