@@ -2,16 +2,13 @@
 never has the status of an answer."""
 
 import os
-import signal
 import sys
 
 from tool.refusal import Refusal, escaped
 
 # The status of wrong words, and that of a script that fails or refuses.
 WRONG_WORDS, FAILED = 64, 70
-BY_SIGNAL = 128
-# The signals that ask a script to end.
-ENDING = (signal.SIGINT, signal.SIGTERM, signal.SIGHUP)
+BY_SIGNAL, INTERRUPT = 128, 2
 
 
 class Signalled(BaseException):
@@ -24,14 +21,18 @@ class Signalled(BaseException):
 
 def on_signal(number, _):
     """Ends the script. What it has made for itself is removed on the way, and further signals don't interrupt that."""
-    for it in ENDING:
+    import signal
+
+    for it in (signal.SIGINT, signal.SIGTERM, signal.SIGHUP):
         signal.signal(it, signal.SIG_IGN)
     raise Signalled(number)
 
 
 def take_signals():
     """Lets signals end the script in order, except those that the caller ignores."""
-    for it in ENDING:
+    import signal
+
+    for it in (signal.SIGINT, signal.SIGTERM, signal.SIGHUP):
         if signal.getsignal(it) in (signal.SIG_DFL, signal.default_int_handler):
             signal.signal(it, on_signal)
 
@@ -39,7 +40,7 @@ def take_signals():
 def uncaught(kind, error, trace):
     """Ends a script that is interrupted before its main function runs."""
     if issubclass(kind, (KeyboardInterrupt, Signalled)):
-        os._exit(BY_SIGNAL + getattr(error, "number", signal.SIGINT))
+        os._exit(BY_SIGNAL + getattr(error, "number", INTERRUPT))
     sys.__excepthook__(kind, error, trace)
 
 
@@ -78,9 +79,9 @@ def status_of(name, main, prints):
         if sys.stdout is not None:
             sys.stdout.flush()
         return status
-    except Signalled as ending:
+    except (KeyboardInterrupt, Signalled) as ending:
         say(name, "ended; what was made before stays")
-        return BY_SIGNAL + ending.number
+        return BY_SIGNAL + getattr(ending, "number", INTERRUPT)
     except BrokenPipeError:
         say(name, "nobody reads standard output any more")
     except Exception as error:  # pylint: disable=broad-except
@@ -90,8 +91,9 @@ def status_of(name, main, prints):
 
 def ended(name, main, prints=True):
     """Runs a script's main function and ends the script."""
-    take_signals()
     try:
+        if prints:
+            take_signals()
         status = status_of(name, main, prints)
     except SystemExit as end:
         status = end.code if isinstance(end.code, int) else FAILED if end.code else 0

@@ -11,7 +11,7 @@ from tool.folder.plan import run, still_skipped
 from tool.planner import Words
 from tool.program import FRONT
 from tool.refusal import Refusal, escaped
-from tool.words import PATH
+from tool.words import is_path
 
 COMMANDS = ("plan", "freeze", "replay")
 # The words of the plan that name a path of the project.
@@ -56,7 +56,7 @@ def split(further):
 def named_paths(further):
     """Returns the paths in the project that the words of the plan name, but for those that the tool makes."""
     command, rest = split(further)
-    given = dict(it.split("=", 1) for it in rest if it.startswith(PLACES) and PATH.fullmatch(it.split("=", 1)[1]))
+    given = dict(it.split("=", 1) for it in rest if it.startswith(PLACES) and is_path(it.split("=", 1)[1]))
     found = [given.get("--index"), given.get("--installed"), given.get("--events", "events") if command == "replay" else None]
     return [it for it in dict.fromkeys(found) if it and it not in (INDEX, INSTALLED)]
 
