@@ -5,9 +5,9 @@ import errno
 import os
 import subprocess
 
-from folders import fifty, project
-from running import CALL, WRITE, Others, is_failure, lay_out, name_of, room, shown, table
-from tool import files
+from torture.folders import fifty, project
+from torture.running import CALL, WRITE, Others, is_failure, lay_out, name_of, room, shown, table
+from tool import children, files
 
 READ_FAULT, WRITE_FAULT, WANTING = 4, 5, 6
 # The answer to each error of a system call, if there is only one possible answer.
@@ -70,7 +70,7 @@ def closed_outputs(program, folder, others):
             ("a pipe that nobody reads", "exec \"$0\" plan", {"stdout": write}),
             ("neither standard output nor standard error", "exec \"$0\" plan >&- 2>&-", {}),
         ):
-            ran = subprocess.run(["sh", "-c", words, program.path], cwd=folder, stderr=subprocess.PIPE, check=False, **how)
+            ran = children.run(["sh", "-c", words, program.path], cwd=folder, stderr=subprocess.PIPE, **how)
             if ran.returncode != WRITE_FAULT:
                 others.add(f"{name}: status {ran.returncode}")
             rows.append((name, ran.returncode, ran.stderr.decode().strip() or "nothing"))

@@ -4,8 +4,8 @@ written, or the same as without a refused request."""
 import errno
 import time
 
-from folders import ROWS
-from running import MEMORY, Others, is_failure, lay_out, room, shown, side_by_side, table
+from torture.folders import ROWS
+from torture.running import MEMORY, Others, is_failure, lay_out, room, shown, side_by_side, table
 
 WANTING = 6
 ALL = 2**62

@@ -9,6 +9,7 @@ from tool.refusal import Refusal, escaped
 # The status of wrong words, and that of a script that fails or refuses.
 WRONG_WORDS, FAILED = 64, 70
 BY_SIGNAL, INTERRUPT = 128, 2
+READER_GONE = "nobody reads standard output any more"
 
 
 class Signalled(BaseException):
@@ -19,10 +20,31 @@ class Signalled(BaseException):
         self.number = number
 
 
+class Held:
+    """Whether signals wait, and the first one that does."""
+
+    is_on, number = False, None
+
+
+def hold():
+    """Lets signals wait until they are released."""
+    Held.is_on = True
+
+
+def release():
+    """Lets signals end the script again, also one that has waited."""
+    Held.is_on = False
+    if Held.number is not None:
+        on_signal(Held.number, None)
+
+
 def on_signal(number, _):
     """Ends the script. What it has made for itself is removed on the way, and further signals don't interrupt that."""
     import signal
 
+    if Held.is_on:
+        Held.number = Held.number or number
+        return
     for it in (signal.SIGINT, signal.SIGTERM, signal.SIGHUP):
         signal.signal(it, signal.SIG_IGN)
     raise Signalled(number)
@@ -83,7 +105,7 @@ def status_of(name, main, prints):
         say(name, "ended; what was made before stays")
         return BY_SIGNAL + getattr(ending, "number", INTERRUPT)
     except BrokenPipeError:
-        say(name, "nobody reads standard output any more")
+        say(name, READER_GONE)
     except Exception as error:  # pylint: disable=broad-except
         say(name, error if isinstance(error, Refusal) else cause(error))
     return FAILED
@@ -102,9 +124,11 @@ def ended(name, main, prints=True):
     if sys.stdout is not None:
         try:
             sys.stdout.flush()
-        except (OSError, ValueError):
+        except (OSError, ValueError) as error:
             # What is left is given up, so that Python doesn't try again at its own end.
             os.dup2(os.open(os.devnull, os.O_WRONLY), 1)
+            if status != FAILED:
+                say(name, READER_GONE if isinstance(error, BrokenPipeError) else cause(error))
             status = FAILED
     sys.exit(status)
 

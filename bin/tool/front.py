@@ -74,9 +74,10 @@ def program(words):
     if is_plain(words):
         sys.stdout and sys.stdout.flush()
         os.execv(path, [path, *words])
-    import subprocess
+    from tool.children import run
 
-    ran = subprocess.run([path, *words], check=False)
+    take_signals()
+    ran = run([path, *words])
     if ran.returncode == WRONG_WORDS:
         for line in told(words, list(TOOL)):
             say(NAME, line)

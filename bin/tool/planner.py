@@ -6,7 +6,7 @@ import argparse
 import json
 import subprocess
 
-from tool import asked
+from tool import asked, children
 from tool.ends import status_of_program
 from tool.program import built_program
 from tool.refusal import Refusal, shown
@@ -40,9 +40,9 @@ class Planner:
     def plan(self, folder, *further):
         """Plans a folder."""
         try:
-            ran = subprocess.run(
+            ran = children.run(
                 [self.program, "plan", "--json", *self.words, *further],
-                cwd=folder, stdin=subprocess.DEVNULL, stdout=subprocess.PIPE, stderr=subprocess.PIPE, check=False,
+                cwd=folder, stdin=subprocess.DEVNULL, stdout=subprocess.PIPE, stderr=subprocess.PIPE,
             )  # fmt: skip
         except OSError as error:
             raise Refusal(f"{self.program} can't be run: {error.strerror}") from error

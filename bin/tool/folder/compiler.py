@@ -11,6 +11,7 @@ import shutil
 import subprocess
 import sys
 
+from tool import children
 from tool.folder.conditions import Platform
 from tool.folder.project import holding, repository
 from tool.refusal import Refusal, shown
@@ -60,7 +61,7 @@ def here():
 def answer(words):
     """Returns the output of a program."""
     try:
-        ran = subprocess.run(words, stdin=subprocess.DEVNULL, stdout=subprocess.PIPE, stderr=subprocess.PIPE, check=False)
+        ran = children.run(words, stdin=subprocess.DEVNULL, stdout=subprocess.PIPE, stderr=subprocess.PIPE)
     except (OSError, ValueError) as error:
         raise Refusal(f"{shown(words[0])} can't be run: {getattr(error, 'strerror', error)}") from error
     if ran.returncode:
