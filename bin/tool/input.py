@@ -1,6 +1,6 @@
 """Reads the files of a project, an index and a compiler, as far as the program reads them: regular files of at most 1 MiB.
 
-In: a path. Out: its bytes, or a refusal. A pipe or a device is neither waited for nor opened."""
+Input: a path. Output: its bytes, or a refusal. A pipe or a device is neither waited for nor opened."""
 
 import os
 import stat

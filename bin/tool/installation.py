@@ -1,6 +1,6 @@
 """Installs the program and the tool below a folder, and removes exactly what was installed.
 
-In: the folder, such as `/usr/local`. A list of all that is made stands in `lib/cabal-plan`: the sum of each file, where
+Input: the folder, such as `/usr/local`. A list of all that is made stands in `lib/cabal-plan`: the sum of each file, where
 each link leads, and each new folder. What has changed since, or isn't in the list, stays."""
 
 import glob

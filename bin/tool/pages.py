@@ -1,6 +1,6 @@
 """The man page and the completions of shells, made from the texts of `cabal-plan help`.
 
-Out: texts. A word whose module isn't there is left out."""
+Output: texts. A word whose module isn't there is left out."""
 
 import contextlib
 import importlib

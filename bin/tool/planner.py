@@ -1,6 +1,6 @@
 """Runs the proved program for the words of this tool, which never answer in its place.
 
-In: a folder and the words to plan with. Out: the program's answer, as the object of `plan --json`."""
+Input: a folder and the words to plan with. Output: the program's answer, as the object of `plan --json`."""
 
 import argparse
 import json

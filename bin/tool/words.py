@@ -1,6 +1,6 @@
 """The words of the proved program, as far as this tool adds something to them.
 
-In: the words. Out: whether the program surely has a reading of them, lines for words that have none, and lines for
+Input: the words. Output: whether the program surely has a reading of them, lines for words that have none, and lines for
 folders that aren't there. The program alone decides what its words mean."""
 
 import os

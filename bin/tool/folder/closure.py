@@ -1,6 +1,6 @@
 """Finds the packages that a project can reach.
 
-In: an index, the first names, the records of units, and which files can be read. Out: for each reached name its
+Input: an index, the first names, the records of units, and which files can be read. Output: for each reached name its
 versions. A name is reached if a dependency field of a reached package has it, under any condition, or if a record of
 one needs its unit. The planner reads no more than this. Test suites and benchmarks of an index's packages are in no
 plan, so names that only they have can be left out."""

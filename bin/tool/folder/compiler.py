@@ -1,6 +1,6 @@
 """Asks a ghc for its version and platform.
 
-In: the ghc of the command line, that of the project, or none for the one on the PATH. Out: its version, its target
+Input: the ghc of the command line, that of the project, or none for the one on the PATH. Output: its version, its target
 system and processor in the planner's words, its global database, and its ghc-pkg. A program of the project is started
 only where the command line names it."""
 

@@ -1,6 +1,6 @@
 """Reads an index of packages, as a folder or as the tar that cabal keeps.
 
-In: a path. Out: an index with the versions of a name, and the bytes of each `.cabal` file. A tar is read once as a
+Input: a path. Output: an index with the versions of a name, and the bytes of each `.cabal` file. A tar is read once as a
 stream for the places of its files, and only these are kept. Of several entries of one path the last counts."""
 
 import contextlib

@@ -1,6 +1,6 @@
 """The entries of `packages`: which paths one of them matches.
 
-In: a folder and an entry. Out: the paths. A directory is listed once, whatever links lead to it. What would take too
+Input: a folder and an entry. Output: the paths. A directory is listed once, whatever links lead to it. What would take too
 long is refused."""
 
 import bisect

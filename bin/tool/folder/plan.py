@@ -1,6 +1,6 @@
 """Runs the planner over the made folder, and counts which files it still skips.
 
-In: the words to plan with. Out: what the planner prints, its status, and a count of its `skipped` lines by their cause."""
+Input: the words to plan with. Output: what the planner prints, its status, and a count of its `skipped` lines by their cause."""
 
 import collections
 import re

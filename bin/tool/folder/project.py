@@ -1,6 +1,6 @@
 """Reads the parts of a project on the packages that it needs.
 
-In: its folder. Out: its project files, its local `.cabal` files by the planner's rules, and the names of
+Input: its folder. Output: its project files, its local `.cabal` files by the planner's rules, and the names of
 `extra-packages`. For these fields under all conditions count; `holding` is for those under conditions that hold. It
 leaves refusals to the planner."""
 

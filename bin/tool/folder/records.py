@@ -1,6 +1,6 @@
 """Finds the records of installed units.
 
-In: a compiler. Out: the records of its global database, and then those of cabal's store for it. A record has its
+Input: a compiler. Output: the records of its global database, and then those of cabal's store for it. A record has its
 unit, its package and the units that it needs, and a path to link to, or its bytes if it is from a dump."""
 
 import hashlib

@@ -1,6 +1,6 @@
 """Finds the index of cabal, or the one of the command line.
 
-In: a path or none. Out: an index: a folder, a tar, the archives of a `file+noindex` repository, or several of these in
+Input: a path or none. Output: an index: a folder, a tar, the archives of a `file+noindex` repository, or several of these in
 one, as cabal merges its repositories."""
 
 import os
