@@ -32,13 +32,13 @@ class Folder:
     """An index that is a folder: NAME/VERSION/NAME.cabal."""
 
     def __init__(self, path):
-        self.path, self.told, self.stamp = os.path.abspath(path), path, None
+        self.path, self.told, self.stamp, self.names = os.path.abspath(path), path, None, set()
 
     def open(self):
         """Refuses a folder without any package. Its files are read when needed."""
         try:
-            names = os.listdir(self.path)
-            has_any = any(os.path.isdir(f"{self.path}/{it}") and self.versions(it) for it in names if is_name(it, "package"))
+            self.names = {it for it in os.listdir(self.path) if is_name(it, "package")}
+            has_any = any(self.versions(it) for it in self.names)
         except OSError as error:
             raise Refusal(f"{self.path} can't be read: {error.strerror}") from error
         if not has_any:
@@ -46,7 +46,7 @@ class Folder:
 
     def versions(self, name):
         """Returns the versions of a name."""
-        if not is_name(name, "package"):
+        if name not in self.names:
             return []
         try:
             there = os.listdir(f"{self.path}/{name}")

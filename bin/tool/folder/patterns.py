@@ -9,7 +9,7 @@ import os
 from tool.refusal import Refusal, shown
 
 # The most paths that an entry matches, and the most names that all entries are compared with.
-MOST_PATHS, MOST_COMPARED = 50_000, 2_000_000
+MOST_PATHS, MOST_COMPARED = 20_000, 1_000_000
 
 
 def fits(name, pieces):
