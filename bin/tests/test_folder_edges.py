@@ -9,7 +9,7 @@ import sys
 import tarfile
 import time
 
-from tests.rooms import CABAL, PACKAGE, TOP, Room, listing
+from tests.rooms import CABAL, GHC, PACKAGE, TOP, Room, listing
 from tool.folder import closure, patterns, progress
 from tool.input import MOST
 from tool.refusal import Refusal
@@ -251,6 +251,16 @@ class Hostile(Room):
                     make(whole)
                     self.check("is no regular file")
                     os.remove(whole)
+
+    def test_a_full_disk(self):
+        """No byte can be written to a file. The next run goes on."""
+        self.script("bin/ghc", GHC.format(log="/dev/null", database=f"{self.room}/db"))
+        self.script("planner", "#!/bin/sh\necho plan\n")
+        before = listing(self.room)
+        ran = self.folder(program=f"{self.room}/planner", preexec_fn=lambda: resource.setrlimit(resource.RLIMIT_FSIZE, (0, 0)))
+        self.is_failure(ran, "can't be")
+        self.is_untouched(before, OURS)
+        self.assertEqual(0, self.folder(program=f"{self.room}/planner").returncode)
 
     def test_a_sparse_file(self):
         for path in ("src/project/main.cabal", "src/project/cabal.project", "db/x-1.conf"):

@@ -2,7 +2,7 @@
 
 LONGEST = 300
 # What may move the cursor or turn the direction of writing, beside the characters below the blank.
-UNPRINTABLE = [(0x7F, 0x9F), (0x200E, 0x200F), (0x2028, 0x202E), (0x2066, 0x2069), (0xD800, 0xDFFF)]
+PARTS = ((0x7F, 0x9F), (0x200E, 0x200F), (0x2028, 0x202E), (0x2066, 0x2069), (0xD800, 0xDFFF))
 
 
 class Refusal(Exception):
@@ -10,7 +10,19 @@ class Refusal(Exception):
 
 
 def is_unprintable(sign):
-    return sign < " " or (sign >= "\x7f" and any(first <= ord(sign) <= last for first, last in UNPRINTABLE))
+    return sign < " " or (sign >= "\x7f" and any(first <= ord(sign) <= last for first, last in PARTS))
+
+
+class Unprintable:
+    """The characters that aren't printed as they are. It stands for a pattern, which every start would compile."""
+
+    @staticmethod
+    def search(text):
+        """Returns whether a text has one."""
+        return any(map(is_unprintable, text))
+
+
+UNPRINTABLE = Unprintable()
 
 
 def escaped(text):

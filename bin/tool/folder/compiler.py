@@ -12,6 +12,7 @@ import subprocess
 import sys
 
 from tool import children
+from tool.ends import status_of_program
 from tool.folder.conditions import Platform
 from tool.folder.project import holding, repository
 from tool.refusal import Refusal, shown
@@ -66,7 +67,7 @@ def answer(words):
         raise Refusal(f"{shown(words[0])} can't be run: {getattr(error, 'strerror', error)}") from error
     if ran.returncode:
         told = ran.stderr.decode("utf-8", "replace").strip().split("\n")[-1]
-        raise Refusal(f"'{shown(' '.join(words))}' ends with status {ran.returncode}: {shown(told)}")
+        raise Refusal(f"'{shown(' '.join(words))}' ends with status {status_of_program(ran.returncode)}: {shown(told)}")
     return ran.stdout.decode("utf-8", "replace")
 
 

@@ -17,7 +17,7 @@ from tool.folder.records import hash_of, records
 from tool.folder.repositories import index
 from tool.input import MOST, MOST_BYTES, MOST_FILES, content, front
 from tool.names import file_name
-from tool.refusal import Refusal, escaped, read, shown
+from tool.refusal import UNPRINTABLE, Refusal, read, shown
 
 
 def copy_of(path, data, say):
@@ -37,7 +37,7 @@ def local_packages(project, is_rewritten, say):
         size += len(found[path])
         if len(found) > MOST_FILES or size > MOST_BYTES:
             raise Refusal(f"the local files are more than {MOST_FILES}, or have more than {MOST_BYTES} bytes, and the planner reads no more")
-        if path != escaped(path):
+        if UNPRINTABLE.search(path):
             say(f"{path}: its name can look like a line of a plan; read the plan with --json")
     if is_rewritten:
         return {path: (data, *copy_of(path, data, say)) for path, data in found.items()}

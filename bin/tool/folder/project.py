@@ -58,6 +58,11 @@ def read_elements(folder, file):
         raise Refusal(f"{file} can't be read: {error}") from error
 
 
+def of_entry(folder, entry):
+    """Returns the `.cabal` files of an entry."""
+    return Entries(folder).files(entry)
+
+
 def local_files(folder):
     """Returns the local `.cabal` files, relative to the folder."""
     has_project = os.path.isfile(os.path.join(folder, "cabal.project"))
