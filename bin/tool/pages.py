@@ -53,7 +53,9 @@ def options_in(told):
 
 def words():
     """Returns all words."""
-    found = [Word(it, text, help_of(it, text), {name: (bool(form), MEANINGS[name]) for name, form in OPTIONS[it].items()}) for it, text in PROGRAM.items()]
+    found = []
+    for name, text in PROGRAM.items():
+        found.append(Word(name, text, help_of(name, text), {it: (bool(form), MEANINGS[it]) for it, form in OPTIONS[name].items()}))
     for name, (module, text) in TOOL.items():
         told = help_text(module)
         if told is not None:
