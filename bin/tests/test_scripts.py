@@ -74,9 +74,8 @@ class Scripts(Room):
     def ended(self, given):
         """Runs a script until it has a room, sends it a signal, and returns the script, its status and what it has said."""
         name, words, number = given
-        of = self.environment(TMPDIR=os.path.dirname(self.write(f"rooms-{name.replace('/', '-')}/.keep", "")))
         began = f"{self.room}/began-{name.replace('/', '-')}"
-        words = [it.replace("PROGRAM", self.script(f"program-{name.replace('/', '-')}", f"#!/bin/sh\ntouch {began}\nexec sleep 30\n")) for it in words]
+        of = self.environment(TMPDIR=os.path.dirname(self.write(f"rooms-{name.replace('/', '-')}/.keep", "")), BEGAN=began)
         how = {"stdin": subprocess.DEVNULL, "stdout": subprocess.DEVNULL, "stderr": subprocess.PIPE, "cwd": self.at, "env": of}
         with subprocess.Popen([f"{TOP}/{name}", *words], **how) as ran:
             until = time.monotonic() + 20
@@ -89,12 +88,15 @@ class Scripts(Room):
     def test_signals(self):
         """Each ends with 128 and the signal's number, and removes its room."""
         before = {it for it in os.listdir("/dev/shm") if it.startswith("torture-")} if os.path.isdir("/dev/shm") else set()
-        program = ["--program", "PROGRAM"]
+        waits = "#!/bin/sh\ntouch $BEGAN\nexec sleep 30\n"
+        program = ["--program", self.script("waits", waits)]
+        self.script("bin/rt", waits)
         given = [
             ("bench/files", program, signal.SIGTERM), ("bench/reading", program, signal.SIGINT), ("bench/counting", [*program, "--tangles"], signal.SIGHUP),
             ("bench/shrinking", [*program, "3:3"], signal.SIGTERM), ("bench/names", [*program, "3"], signal.SIGINT), ("bin/try-cases", program, signal.SIGTERM),
             ("bench/rows", [*program, "--row", "entries of two"], signal.SIGTERM), ("bench/freezing", program, signal.SIGINT),
             ("bench/try-torture", [*program, "large", "`&&` of a flag"], signal.SIGTERM), ("bench/shapes", program, signal.SIGHUP),
+            ("bin/mistakes", ["version_range"], signal.SIGTERM), ("bin/gate", [], signal.SIGINT), ("bench/builds", ["5"], signal.SIGHUP),
         ]  # fmt: skip
         with concurrent.futures.ThreadPoolExecutor(4) as pool:
             for name, status, told, left in pool.map(self.ended, given):

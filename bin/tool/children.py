@@ -5,7 +5,8 @@ import subprocess
 
 from tool.ends import hold, release
 
-SECONDS = 2
+# How long a program may take to end itself.
+SECONDS = 10
 
 
 def started(words, **how):
