@@ -162,6 +162,9 @@ class Tar:
         """Returns the versions of a name."""
         return list(self.places.get(name, ()))
 
+    def has(self, name, version):
+        return version in self.places.get(name, ())
+
     def data(self, name, version):
         at, size = self.places[name][version]
         # Of a file that is too large for the planner no more is kept than shows this.

@@ -68,13 +68,16 @@ class Archives:
         self.stamp = repr((self.path, [(name, it.st_size, it.st_mtime_ns) for name, it in told]))
         for it in filter(None, (ARCHIVE.fullmatch(name) for name, _ in told)):
             if is_name(it[1], "package") and is_name(it[2], "version"):
-                self.found.setdefault(it[1], []).append(it[2])
+                self.found.setdefault(it[1], {})[it[2]] = None
 
     def open(self):
         """Does nothing: an archive is read when needed."""
 
     def versions(self, name):
-        return self.found.get(name, [])
+        return list(self.found.get(name, ()))
+
+    def has(self, name, version):
+        return version in self.found.get(name, ())
 
     def data(self, name, version):
         beside = f"{self.path}/{name}-{version}.cabal"
@@ -103,7 +106,7 @@ class Merged:
         return list(dict.fromkeys(version for it in self.sources for version in it.versions(name)))
 
     def data(self, name, version):
-        return next(it for it in reversed(self.sources) if version in it.versions(name)).data(name, version)
+        return next(it for it in reversed(self.sources) if it.has(name, version)).data(name, version)
 
     def target(self, _name, _version):
         return None
