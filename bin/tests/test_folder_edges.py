@@ -324,6 +324,12 @@ class Hostile(Room):
         self.assertNotIn("\nchoose", ran.err)
         self.assertIn("x\\nchoose evil 1 local\\n.cabal: its name can look like a line of a plan", ran.err)
 
+    def test_messages_never_go_to_standard_output(self):
+        planner = self.script("planner", "#!/bin/sh\necho plan\n")
+        line = f"exec {TOP}/bin/cabal-plan folder --index={self.room}/packages --program={planner} --run 2>&-"
+        ran = self.run_script(["sh", "-c", line])
+        self.assertEqual((0, "plan\n"), (ran.returncode, ran.out))
+
     def test_a_module_of_the_user(self):
         for name in ("json", "os", "argparse", "tool"):
             self.write(f"modules/{name}.py", f"open({self.room + '/src/evil'!r}, 'w')\n")

@@ -9,8 +9,9 @@ from tool.folder.folder import made_folder
 from tool.folder.made import INDEX, INSTALLED
 from tool.folder.plan import run, still_skipped
 from tool.planner import Words
+from tool.ends import say as tell
 from tool.program import FRONT
-from tool.refusal import Refusal, escaped
+from tool.refusal import Refusal
 from tool.words import is_path
 
 COMMANDS = ("plan", "freeze", "replay")
@@ -25,7 +26,9 @@ The status is 0; 64 if the words are wrong; 70 after a refusal; with --run it is
 
 def say(text, *lines):
     """Prints a message on standard error, and lines that can be copied below it."""
-    print(f"cabal-plan folder: {escaped(text)}", *lines, sep="\n", file=sys.stderr, flush=True)
+    tell("cabal-plan folder", text)
+    for line in lines if sys.stderr is not None else ():
+        print(line, file=sys.stderr, flush=True)
 
 
 def words_of(given):
@@ -34,11 +37,11 @@ def words_of(given):
     parser = Words("folder", usage="cabal-plan folder [OPTION ..] [-- WORDS OF THE PLAN]", description=TEXT)
     parser.add_argument("--index", metavar="PATH", help="the packages: a folder of NAME/VERSION/NAME.cabal, or a tar; else the 01-index.tar of cabal")
     parser.add_argument("--with-compiler", metavar="PATH", help="the ghc; else what the project says, or the one on the PATH")
-    parser.add_argument("--no-store", action="store_true", help="leaves out the records of cabal's store")
-    parser.add_argument("--older-headers", action="store_true", help="rewrites copies of files with another header so that they are read")
-    parser.add_argument("--newest", metavar="N", type=number(1), help="keeps the N newest versions of each name")
-    parser.add_argument("--run", action="store_true", help="plans at once")
-    parser.add_argument("--program", metavar="PATH", help="the planner; else bin/cabal-plan of this repository")
+    parser.add_argument("--no-store", action="store_true", help="leave out the records of cabal's store")
+    parser.add_argument("--older-headers", action="store_true", help="plan rewritten copies of files with another header")
+    parser.add_argument("--newest", metavar="N", type=number(1), help="keep the N newest versions of each name")
+    parser.add_argument("--run", action="store_true", help="plan at once")
+    parser.add_argument("--program", metavar="PATH", help="the planner; else the proved one of this tool")
     return parser.parse_args(given[:at]), given[at + 1 :]
 
 
