@@ -1,4 +1,4 @@
-"""cabal-install without a network. In: the folder of a project, and the files of its index. Out: the verdict and the
+"""cabal-install without a network. Input: the folder of a project, and the files of its index. Output: the verdict and the
 plan, in the form of `planner.py`."""
 
 import io

@@ -1,4 +1,4 @@
-"""Folders to plan with both. In: the examples, an index of real packages, or the number of a random folder. Out:
+"""Folders to plan with both. Input: the examples, an index of real packages, or the number of a random folder. Out:
 projects, each with its own files and those of its index, in the forms for this program and for cabal-install."""
 
 import glob

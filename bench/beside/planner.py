@@ -1,4 +1,4 @@
-"""This program. In: its path, a folder, and words. Out: the verdict and the plan, in the form of `cabal.py`."""
+"""This program. Input: its path, a folder, and words. Output: the verdict and the plan, in the form of `cabal.py`."""
 
 import json
 

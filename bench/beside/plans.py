@@ -3,6 +3,8 @@
 import resource
 import subprocess
 
+from tool import children
+
 # A run is stopped after so many seconds of the clock.
 SECONDS = 600
 
@@ -30,8 +32,8 @@ def run(words, folder, environment=None):
     processor time."""
     begun = spent()
     try:
-        ran = subprocess.run(
-            words, cwd=folder, env=environment, stdin=subprocess.DEVNULL, stdout=subprocess.PIPE, stderr=subprocess.STDOUT, timeout=SECONDS, check=False
+        ran = children.run(
+            words, cwd=folder, env=environment, stdin=subprocess.DEVNULL, stdout=subprocess.PIPE, stderr=subprocess.STDOUT, timeout=SECONDS
         )
     except subprocess.TimeoutExpired:
         return None, f"none after {SECONDS} seconds", spent() - begun

@@ -5,17 +5,17 @@ import errno
 import os
 import subprocess
 
-from folders import fifty, project
-from running import CALL, WRITE, Others, is_failure, lay_out, name_of, room, shown, table
-from tool import files
+from torture.folders import fifty, project
+from torture.running import CALL, WRITE, Others, is_failure, lay_out, name_of, room, shown, table
+from tool import children, files
 
-READ_FAULT, WRITE_FAULT, WANTING = 4, 5, 6
+READ_FAULT, WRITE_FAULT, OUT_OF_MEMORY = 4, 5, 6
 # The answer to each error of a system call, if there is only one possible answer.
 ERRORS = {
     errno.EIO: READ_FAULT,
     errno.EACCES: READ_FAULT,
     errno.EMFILE: READ_FAULT,
-    errno.ENOMEM: WANTING,
+    errno.ENOMEM: OUT_OF_MEMORY,
     # Another answer or the same: with ENOENT the file is missing, and an interrupted call may be repeated.
     errno.ENOENT: None,
     errno.ENOTDIR: None,
@@ -36,7 +36,7 @@ def refuse_calls(program, name, folder, words, error, others):
     for number in range(1, whole.counts.calls + 1):
         ended = program.run(folder, words, (CALL, number, number, error))
         status = ERRORS[error]
-        fails = ended.status in (READ_FAULT, WANTING) and is_failure(ended, ended.status) and not ended.out
+        fails = ended.status in (READ_FAULT, OUT_OF_MEMORY) and is_failure(ended, ended.status) and not ended.out
         if not (fails and ended.status == status if status else fails or is_answer(ended)):
             others.add(f"{name}, call {number} with {name_of(error)}: {shown(ended)}")
         kind = "as without" if (ended.status, ended.out) == (whole.status, whole.out) else ended.status
@@ -70,7 +70,7 @@ def closed_outputs(program, folder, others):
             ("a pipe that nobody reads", "exec \"$0\" plan", {"stdout": write}),
             ("neither standard output nor standard error", "exec \"$0\" plan >&- 2>&-", {}),
         ):
-            ran = subprocess.run(["sh", "-c", words, program.path], cwd=folder, stderr=subprocess.PIPE, check=False, **how)
+            ran = children.run(["sh", "-c", words, program.path], cwd=folder, stderr=subprocess.PIPE, **how)
             if ran.returncode != WRITE_FAULT:
                 others.add(f"{name}: status {ran.returncode}")
             rows.append((name, ran.returncode, ran.stderr.decode().strip() or "nothing"))

@@ -6,7 +6,7 @@ import json
 import os
 import random
 
-from running import EXAMPLES, Others, files_of, lay_out, room, shown, side_by_side, table
+from torture.running import EXAMPLES, Others, files_of, lay_out, room, shown, side_by_side, table
 from tool import files as own_files
 
 FOLDERS = 10_000
@@ -142,8 +142,8 @@ def run(program, words):
             lay_out(folder, files)
             before = others.count
             found = tried(program, folder, given, f"folder {number} of {name}, {' '.join(given)}", others)
-            if others.count > before and (kept := os.environ.get("KEEP")):
-                own_files.made_room(kept).copy(folder, str(number))
+            if others.count > before and program.keep:
+                own_files.made_room(program.keep).copy(folder, str(number))
         return found
 
     for ended, seconds in side_by_side(one, range(count)):

@@ -1,6 +1,6 @@
 """The folders over which calls are refused: worked examples, and a folder of some fifty files."""
 
-from running import EXAMPLES, files_of
+from torture.running import EXAMPLES, files_of
 
 
 def plain(name, version, needs=()):

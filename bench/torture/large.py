@@ -3,8 +3,8 @@ the usual stack of 8 MiB."""
 
 import sys
 
-from folders import plain
-from running import PATIENCE, Others, lay_out, room, table
+from torture.folders import plain
+from torture.running import PATIENCE, Others, lay_out, room, table
 
 MOST = 1_048_576
 RECORDS = 20_000
@@ -289,9 +289,6 @@ FILES = {
 
 
 def run(program, names):
-    unknown = [name for name in names if name not in FILES]
-    if unknown:
-        sys.exit(f"there is no '{unknown[0]}'; there are: {', '.join(FILES)}")
     others, rows = Others(), []
     for name in names or FILES:
         files = FILES[name]()

@@ -13,6 +13,7 @@ import sys
 import threading
 
 from tool import files
+from tool.children import child
 
 HERE = os.path.dirname(os.path.realpath(__file__))
 TOP = os.path.dirname(os.path.dirname(HERE))
@@ -62,13 +63,12 @@ def side_by_side(call, given):
 class Program:
     """The program, and the library that counts its requests and refuses some."""
 
-    def __init__(self, work):
+    def __init__(self, work, path, keep=None):
+        """work: the path of a room; keep: a folder for changed folders with an unexpected answer, or none."""
         # Each run has the usual stack, and a crash leaves no file.
         resource.setrlimit(resource.RLIMIT_STACK, (STACK, resource.getrlimit(resource.RLIMIT_STACK)[1]))
         resource.setrlimit(resource.RLIMIT_CORE, (0, 0))
-        given = os.environ.get("PROGRAM")
-        told = [f"{TOP}/bin/program"]
-        self.path = os.path.abspath(given or subprocess.run(told, check=True, stdout=subprocess.PIPE, text=True).stdout.strip())
+        self.path, self.keep = path, keep
         self.faults = f"{work}/faults.so"
         subprocess.run(["gcc", "-shared", "-fPIC", "-O2", "-o", self.faults, f"{HERE}/faults.c"], check=True)
 
@@ -93,7 +93,7 @@ class Program:
         work = os.path.dirname(self.faults)
         with files.scratch(work) as out, files.scratch(work) as err:
             how = {"stdin": subprocess.DEVNULL, "stdout": out, "stderr": err, "cwd": folder, "env": given}
-            with subprocess.Popen([self.path, *words], **how) as ran:
+            with child([self.path, *words], **how) as ran:
                 with contextlib.suppress(ProcessLookupError):
                     resource.prlimit(ran.pid, resource.RLIMIT_CPU, (seconds, seconds))
                 _, status, used = os.wait4(ran.pid, 0)

@@ -2,14 +2,71 @@
 never has the status of an answer."""
 
 import os
-import signal
 import sys
 
 from tool.refusal import Refusal, escaped
 
 # The status of wrong words, and that of a script that fails or refuses.
 WRONG_WORDS, FAILED = 64, 70
-BY_SIGNAL = 128
+BY_SIGNAL, INTERRUPT = 128, 2
+READER_GONE = "nobody reads standard output any more"
+
+
+class Signalled(BaseException):
+    """A signal that ends the script."""
+
+    def __init__(self, number):
+        super().__init__(number)
+        self.number = number
+
+
+class Held:
+    """Whether signals wait, and the first one that does."""
+
+    is_on, number = False, None
+
+
+def hold():
+    """Lets signals wait until they are released."""
+    Held.is_on = True
+
+
+def release():
+    """Lets signals end the script again, also one that has waited."""
+    Held.is_on = False
+    if Held.number is not None:
+        on_signal(Held.number, None)
+
+
+def on_signal(number, _):
+    """Ends the script. What it has made for itself is removed on the way, and further signals don't interrupt that."""
+    import signal
+
+    if Held.is_on:
+        Held.number = Held.number or number
+        return
+    for it in (signal.SIGINT, signal.SIGTERM, signal.SIGHUP):
+        signal.signal(it, signal.SIG_IGN)
+    raise Signalled(number)
+
+
+def take_signals():
+    """Lets signals end the script in order, except those that the caller ignores."""
+    import signal
+
+    for it in (signal.SIGINT, signal.SIGTERM, signal.SIGHUP):
+        if signal.getsignal(it) in (signal.SIG_DFL, signal.default_int_handler):
+            signal.signal(it, on_signal)
+
+
+def uncaught(kind, error, trace):
+    """Ends a script that is interrupted before its main function runs."""
+    if issubclass(kind, (KeyboardInterrupt, Signalled)):
+        os._exit(BY_SIGNAL + getattr(error, "number", INTERRUPT))
+    sys.__excepthook__(kind, error, trace)
+
+
+sys.excepthook = uncaught
 
 
 def say(name, text):
@@ -44,11 +101,11 @@ def status_of(name, main, prints):
         if sys.stdout is not None:
             sys.stdout.flush()
         return status
-    except KeyboardInterrupt:
+    except (KeyboardInterrupt, Signalled) as ending:
         say(name, "ended; what was made before stays")
-        return BY_SIGNAL + signal.SIGINT
+        return BY_SIGNAL + getattr(ending, "number", INTERRUPT)
     except BrokenPipeError:
-        say(name, "nobody reads standard output any more")
+        say(name, READER_GONE)
     except Exception as error:  # pylint: disable=broad-except
         say(name, error if isinstance(error, Refusal) else cause(error))
     return FAILED
@@ -57,6 +114,8 @@ def status_of(name, main, prints):
 def ended(name, main, prints=True):
     """Runs a script's main function and ends the script."""
     try:
+        if prints:
+            take_signals()
         status = status_of(name, main, prints)
     except SystemExit as end:
         status = end.code if isinstance(end.code, int) else FAILED if end.code else 0
@@ -65,9 +124,11 @@ def ended(name, main, prints=True):
     if sys.stdout is not None:
         try:
             sys.stdout.flush()
-        except (OSError, ValueError):
+        except (OSError, ValueError) as error:
             # What is left is given up, so that Python doesn't try again at its own end.
             os.dup2(os.open(os.devnull, os.O_WRONLY), 1)
+            if status != FAILED:
+                say(name, READER_GONE if isinstance(error, BrokenPipeError) else cause(error))
             status = FAILED
     sys.exit(status)
 

@@ -84,6 +84,21 @@ def put(name, data, within, mode=0o644):
         os.close(handle)
 
 
+@contextlib.contextmanager
+def parent(top, path):
+    """Opens the folder of a path below a folder, and yields its handle and the last name of the path."""
+    *folders, last = parts(path)
+    at = os.dup(top)
+    try:
+        for name in folders:
+            below = open_folder(name, at)
+            os.close(at)
+            at = below
+        yield at, last
+    finally:
+        os.close(at)
+
+
 class Filling:
     """A new folder that is being filled. Its folders are made as they are needed."""
 
@@ -106,9 +121,9 @@ class Filling:
         finally:
             os.close(at)
 
-    def put(self, path, data):
+    def put(self, path, data, mode=0o644):
         with self._parent(path) as (at, name):
-            put(name, data, at)
+            put(name, data, at, mode)
 
     def link(self, path, target):
         with self._parent(path) as (at, name):
@@ -158,6 +173,15 @@ def unlink(name, within):
 def remove_empty(name, within):
     """Removes a folder that has nothing in it."""
     os.rmdir(name, dir_fd=within)
+
+
+def remove_if_empty(name, within):
+    """Removes a folder, unless it has something in it."""
+    try:
+        os.rmdir(name, dir_fd=within)
+    except OSError as error:
+        if error.errno not in (errno.ENOTEMPTY, errno.EEXIST, errno.ENOTDIR):
+            raise
 
 
 def make_folder(name, within=None):

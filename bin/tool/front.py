@@ -1,11 +1,9 @@
 """The words of the command line: those of the proved program go to it as they are, the others to a module of this tool."""
 
-import importlib
 import os
-import subprocess
 import sys
 
-from tool.ends import WRONG_WORDS, say, status_of_program
+from tool.ends import WRONG_WORDS, say, status_of_program, take_signals
 from tool.program import built_program, release
 from tool.refusal import Refusal
 
@@ -60,6 +58,9 @@ def help_on(words):
 
 def own(word, words):
     """Runs a word of this tool."""
+    import importlib
+
+    take_signals()
     return importlib.import_module(TOOL[word][0]).main(words)
 
 
@@ -73,7 +74,10 @@ def program(words):
     if is_plain(words):
         sys.stdout and sys.stdout.flush()
         os.execv(path, [path, *words])
-    ran = subprocess.run([path, *words], check=False)
+    from tool.children import run
+
+    take_signals()
+    ran = run([path, *words])
     if ran.returncode == WRONG_WORDS:
         for line in told(words, list(TOOL)):
             say(NAME, line)

@@ -1,6 +1,6 @@
 """Names of files out of texts from outside.
 
-In: a name that an index, a record or a project gives. Out: the same name, if a package, version or unit may be called
+Input: a name that an index, a record or a project gives. Output: the same name, if a package, version or unit may be called
 so. None of these has a slash, or is `.` or `..`."""
 
 import re

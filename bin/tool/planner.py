@@ -1,13 +1,14 @@
 """Runs the proved program for the words of this tool, which never answer in its place.
 
-In: a folder and the words to plan with. Out: the program's answer, as the object of `plan --json`."""
+Input: a folder and the words to plan with. Output: the program's answer, as the object of `plan --json`."""
 
 import argparse
 import json
 import os
 import subprocess
 
-from tool.ends import WRONG_WORDS, status_of_program
+from tool import asked, children
+from tool.ends import status_of_program
 from tool.program import built_program
 from tool.refusal import Refusal, shown
 from tool.words import OPTIONS
@@ -42,23 +43,20 @@ class Planner:
     def plan(self, folder, *further):
         """Plans a folder."""
         try:
-            ran = subprocess.run(
+            ran = children.run(
                 [self.program, "plan", "--json", *self.words, *further],
-                cwd=folder, stdin=subprocess.DEVNULL, stdout=subprocess.PIPE, stderr=subprocess.PIPE, check=False,
+                cwd=folder, stdin=subprocess.DEVNULL, stdout=subprocess.PIPE, stderr=subprocess.PIPE,
             )  # fmt: skip
         except OSError as error:
             raise Refusal(f"{self.program} can't be run: {error.strerror}") from error
         return Answer(status_of_program(ran.returncode), ran.stdout.decode("utf-8", "replace"), ran.stderr.decode("utf-8", "replace"))
 
 
-class Words(argparse.ArgumentParser):
-    """The options of a word of this tool. Wrong ones end it with 64. Options aren't abbreviated."""
+class Words(asked.Words):
+    """The options of a word of this tool."""
 
     def __init__(self, word, **how):
-        super().__init__(prog=f"cabal-plan {word}", allow_abbrev=False, formatter_class=argparse.RawDescriptionHelpFormatter, **how)
-
-    def error(self, message):
-        self.exit(WRONG_WORDS, f"{self.prog}: {message}; --help lists the options\n")
+        super().__init__(f"cabal-plan {word}", how.pop("description", None), **how)
 
     def add_planning(self):
         """Adds the options of `plan` that are handed on to the program, and the program."""

@@ -1,25 +1,33 @@
 """The program for the present sources: the one that was built, or the release's. A program is run only if its bytes
 have the sum that is kept beside it."""
 
-import contextlib
 import hashlib
 import os
-import platform
-import re
 
 from tool.refusal import Refusal, read
 
+
+def cache():
+    """Returns the user's cache folder. A path that isn't whole doesn't count."""
+    given = os.environ.get("XDG_CACHE_HOME", "")
+    return given if given.startswith("/") else os.path.expanduser("~/.cache")
+
+
 TOP = os.path.dirname(os.path.dirname(os.path.dirname(os.path.realpath(__file__))))
+# The command that users call.
+FRONT = f"{TOP}/bin/cabal-plan"
 PROGRAM = "cabal_plan"
 # Outside the checkout: checkouts of the same sources share it, and the gate doesn't find it.
-OUT = f"{os.environ.get('XDG_CACHE_HOME') or os.path.expanduser('~/.cache')}/cabal-plan"
+OUT = f"{cache()}/cabal-plan"
+# The list of an installation, which has no sources; its program is the one beside it.
+INSTALLED = f"{TOP}/installed.txt"
 # The program of the last release, for x86-64 Linux, and the sum of its sources.
 DIST = f"{TOP}/dist"
 RELEASE, RELEASED_SOURCES = f"{DIST}/cabal-plan", f"{DIST}/sources.sha256"
 # What ends the name of the file with the sum of a program.
 SUM = ".sha256"
-# The folders of a crate that have its sources, with the names of these files. Editors leave others beside them.
-SOURCES = {"src": re.compile(r"\w[\w-]*\.rt", re.A), "specs": re.compile(r"\w[\w-]*\.antt", re.A), "proofs": re.compile(r"\w[\w-]*\.antt", re.A)}
+# The folders of a crate that have its sources, with the end of the names of these files.
+SOURCES = {"src": ".rt", "specs": ".antt", "proofs": ".antt"}
 
 
 def table(top=TOP):
@@ -39,14 +47,19 @@ def below(crate, known, found):
     return found
 
 
+def is_module(name):
+    """Returns whether a module may be called so. Editors leave other files beside the sources."""
+    return name[:1] not in ("", "-") and name.isascii() and name.replace("_", "a").replace("-", "a").isalnum()
+
+
 def sources(crates):
     """Returns the paths of the program's sources, relative to the top."""
     found = ["HANDLES"]
     for crate in crates:
-        for part, name in SOURCES.items():
+        for part, end in SOURCES.items():
             for at, folders, names in os.walk(f"{TOP}/crates/{crate}/{part}"):
                 folders[:] = [it for it in folders if not it.startswith(".")]
-                found += [f"{at}/{it}"[len(TOP) + 1 :] for it in names if name.fullmatch(it)]
+                found += [f"{at}/{it}"[len(TOP) + 1 :] for it in names if it.endswith(end) and is_module(it[: -len(end)])]
     return sorted(found)
 
 
@@ -62,9 +75,11 @@ def sum_of(top, crates, paths):
 
 def first_word(path):
     """Returns the first word of a file, or none if it can't be read."""
-    with contextlib.suppress(OSError, UnicodeDecodeError), open(path, encoding="utf-8") as file:
-        return (file.read(1024).split() or [""])[0]
-    return None
+    try:
+        with open(path, encoding="utf-8") as file:
+            return (file.read(1024).split() or [""])[0]
+    except (OSError, UnicodeDecodeError):
+        return None
 
 
 def checked(path):
@@ -87,12 +102,14 @@ def release():
 
 def is_released(total):
     """Returns whether the release was built of the sources with this sum, and is for this machine."""
-    return first_word(RELEASED_SOURCES) == total and platform.machine() == "x86_64"
+    return first_word(RELEASED_SOURCES) == total and os.uname().machine == "x86_64"
 
 
 def built_program():
     """Returns the program for the present sources: the one that was built, or else the release's if it has the same
-    sources. If there is none, the program is built first."""
+    sources. If there is none, the program is built first. An installed tool has the one beside it."""
+    if os.path.isfile(INSTALLED):
+        return checked(RELEASE)
     crates = below(PROGRAM, table(), {})
     paths = sources(crates)
     total = sum_of(TOP, crates, paths)
@@ -102,6 +119,8 @@ def built_program():
         return checked(program)
     if is_released(total):
         return checked(RELEASE)
+    if not OUT.startswith("/"):
+        raise Refusal("there is no home folder, and nowhere to build the program: set HOME, or XDG_CACHE_HOME")
     from tool.steps import Build, built
 
     if not built(OUT, program, Build(TOP, f"{OUT}/work", crates), paths, sum_of):

@@ -11,7 +11,7 @@ import subprocess
 import sys
 import time
 
-from tool import files
+from tool import ends, files
 from tool.refusal import read
 
 # The memory of a check in bytes: the least, a line of code, a line of a definition or proof, the kit's crates.
@@ -22,7 +22,7 @@ PARTS = ("src", "specs", "proofs")
 
 
 def say(text):
-    print(f"cabal-plan: {text}", file=sys.stderr, flush=True)
+    ends.say("cabal-plan", text)
 
 
 def since(begun):

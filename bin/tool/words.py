@@ -1,11 +1,9 @@
 """The words of the proved program, as far as this tool adds something to them.
 
-In: the words. Out: whether the program surely has a reading of them, lines for words that have none, and lines for
+Input: the words. Output: whether the program surely has a reading of them, lines for words that have none, and lines for
 folders that aren't there. The program alone decides what its words mean."""
 
-import difflib
 import os
-import re
 
 PLACES = {"--index": "PATH", "--installed": "PATH", "--os": "NAME", "--arch": "NAME", "--compiler": "NAME-VERSION", "--max-backjumps": "NUMBER"}
 # The options of each command, with the form of the value, or none for an option without one.
@@ -30,17 +28,41 @@ MEANINGS = {
     "--slots": "how many components are built at the same time; else 1",
     "--number": "how many packages are made, 1 to 2000",
 }
-PATH = re.compile(r"(?!\.{1,2}(?:/|$))[^/]+(?:/(?!\.{1,2}(?:/|$))[^/]+)*")
+
+
+def is_path(text):
+    """Returns whether a text is a path below a folder."""
+    return all(it not in ("", ".", "..") for it in text.split("/"))
+
+
+def is_word(text, besides=""):
+    """Returns whether a text has letters and digits alone, besides these signs, and at least one sign."""
+    return text != "" and all(it.isascii() and it.isalnum() or it in besides for it in text)
+
+
+def is_number(text):
+    return text.isascii() and text.isdigit() and len(text) <= 9
+
+
+def is_name_version(text):
+    """Returns whether a text is a name of letters and digits, and a version."""
+    name, _, version = text.partition("-")
+    return is_word(name) and all(is_number(it) and (it == "0" or it[0] != "0") for it in version.split("."))
+
+
+# The forms of values: whether a text has one, and how it is described.
 FORMS = {
-    "PATH": (PATH, "a path below this folder, without `.`, `..` or an empty part"),
-    "NAME": (re.compile(r"[A-Za-z0-9_-]+"), "a name of letters, digits, `-` and `_`"),
-    "NAME-VERSION": (re.compile(r"[A-Za-z0-9]+-(?:0|[1-9][0-9]{0,8})(?:\.(?:0|[1-9][0-9]{0,8}))*"), "a name and a version, such as ghc-9.0.2"),
-    "NUMBER": (re.compile(r"-?[0-9]{1,9}"), "a number"),
+    "PATH": (is_path, "a path below this folder, without `.`, `..` or an empty part"),
+    "NAME": (lambda text: is_word(text, "-_"), "a name of letters, digits, `-` and `_`"),
+    "NAME-VERSION": (is_name_version, "a name and a version, such as ghc-9.0.2"),
+    "NUMBER": (lambda text: is_number(text[text[:1] == "-" :]), "a number"),
 }
 
 
 def nearest(word, known):
     """Returns the end of a message with the nearest known word, if there is one."""
+    import difflib
+
     found = difflib.get_close_matches(word, known, 1, 0.5)
     return f": did you mean {found[0]}?" if found else ""
 
@@ -64,7 +86,7 @@ def wrong(words):
             yield word, f"{name} is given twice"
         elif (known[name] is None) == bool(mark):
             yield word, f"{name} takes no value" if mark else f"{name} takes a value, as {name}={known[name]}"
-        elif mark and not FORMS[known[name]][0].fullmatch(value):
+        elif mark and not FORMS[known[name]][0](value):
             yield word, f"{name} takes {FORMS[known[name]][1]}, and not '{value}'"
         seen.add(name)
 

@@ -1,47 +1,79 @@
 """Finds the packages that a project can reach.
 
-In: an index, the first names, the records of units, and which files can be read. Out: for each reached name its
+Input: an index, the first names, the records of units, and which files can be read. Output: for each reached name its
 versions. A name is reached if a dependency field of a reached package has it, under any condition, or if a record of
 one needs its unit. The planner reads no more than this. Test suites and benchmarks of an index's packages are in no
 plan, so names that only they have can be left out."""
 
+import bisect
 import functools
 import re
 
 from tool.folder.index import by_number
+from tool.input import MOST, MOST_BYTES, MOST_FILES
 
-# The ends of the names of dependency fields, and a pattern of the whole field.
+# The ends of the names of dependency fields, and these names.
 ENDS = (b"depends", b"build-tools")
-FIELD = re.compile(rb"(?:build-depends|build-tool-depends|build-tools|setup-depends)[ \t]*:(?:\s*\{([^}]*)\})?")
-NEW_LINE = re.compile(rb"\n")
+NAMES = (b"build-depends", b"build-tool-depends", b"build-tools", b"setup-depends")
+COLON = re.compile(rb"[ \t]*:(?:\s*(\{))?")
+INLINE = re.compile(rb"[{}\n]")
+BLANKS, BRACES, LINE = b" \t", b"{}", ord("\n")
 COMMENT = re.compile(rb"(?m)^[ \t]*--[^\n]*$")
 NAME = re.compile(rb"(?:\A|,)\s*([A-Za-z0-9]+(?:-[A-Za-z0-9]+)*)")
 # Sections that are built only for a local package. They begin at the front of a line, and so does the next element.
 SUITES, NEXT = (b"\ntest-suite", b"\nbenchmark"), re.compile(rb"\n[a-z]")
 HAS_SETUP = re.compile(rb"build-type[ \t]*:\s*(?:simple|configure|make)\b")
 OF_SETUP = {b"base", b"Cabal"}
-MOST_FILES, MOST_BYTES = 20_000, 268_435_456
 
 
-@functools.lru_cache(maxsize=None)
+@functools.lru_cache(maxsize=256)
 def ending(indent):
     """Returns the pattern of the end of a field: a line no deeper than the field, which is no comment."""
     return re.compile(rb"\n(?=([ \t]{0,%d}))\1(?![ \t\r\n]|--)" % indent)
 
 
+def beginning(low, end):
+    """Returns where the dependency field begins whose name ends there, and its indent, or none behind a brace. Without
+    such a field it returns none."""
+    start = next((end - len(it) for it in NAMES if low.startswith(it, end - len(it), end)), None)
+    if start is None:
+        return None
+    at = start
+    while at > 0 and low[at - 1] in BLANKS:
+        at -= 1
+    if at > 0 and low[at - 1] in BRACES:
+        return start, None
+    return (start, start - at) if at == 0 or low[at - 1] == LINE else None
+
+
 def dependency_fields(data, low):
-    """Yields the place and the text of each dependency field. `low` is the same text in lower case."""
-    for at in (at for end in ENDS for at in places(low, end)):
-        start = low.rfind(b"\n", 0, at) + 1
-        before = low[start:at]
-        head = max(before.rfind(b"{"), before.rfind(b"}")) + 1
-        begin = start + head + len(before[head:]) - len(before[head:].lstrip(b" \t"))
-        it = FIELD.match(low, begin)
-        if it and it[1] is not None:
-            yield begin, data[it.start(1) : it.end(1)]
-        elif it:
-            last = (NEW_LINE if head else ending(begin - start)).search(data, it.end())
-            yield begin, data[it.end() : last.start() if last else len(data)]
+    """Yields the place and the text of each dependency field. `low` is the same text in lower case. No text of a field
+    is looked through again."""
+    done, close = 0, -1
+    for end in sorted(at + len(it) for it in ENDS for at in places(low, it)):
+        found = beginning(low, end) if end > done else None
+        colon = COLON.match(low, end) if found else None
+        if not colon:
+            continue
+        begin, indent = found
+        if colon[1] and close < colon.end():
+            close = low.find(b"}", colon.end())
+            close = len(low) if close < 0 else close
+        if colon[1] and close < len(low):
+            start, done = colon.end(), close
+        else:
+            last = (INLINE if indent is None else ending(indent)).search(data, colon.end())
+            start, done = colon.end(), last.start() if last else len(data)
+        yield begin, data[start:done]
+
+
+def suites(low):
+    """Returns where test suites and benchmarks begin, and where each of them ends."""
+    found = []
+    for at in sorted(at for word in SUITES for at in places(low, word)):
+        end = NEXT.search(low, at + 1)
+        found.append((at, end.start() if end else len(low)))
+    return [it[0] for it in found], [it[1] for it in found]
 
 
 def mentioned(data):
@@ -49,12 +81,13 @@ def mentioned(data):
     outside of test suites and benchmarks."""
     low = data.lower()
     unsaid = set() if any(HAS_SETUP.match(low, at) for at in places(low, b"build-type")) else OF_SETUP
-    suites = [(at, it.start() if (it := NEXT.search(low, at + 1)) else len(low)) for word in SUITES for at in places(low, word)]
+    begins, ends = suites(low)
     full, lean = set(unsaid), set(unsaid)
     for at, text in dependency_fields(data, low):
         found = NAME.findall(COMMENT.sub(b"", text) if b"--" in text else text)
         full.update(found)
-        if not any(start <= at < end for start, end in suites):
+        suite = bisect.bisect_right(begins, at) - 1
+        if suite < 0 or at >= ends[suite]:
             lean.update(found)
     return full, lean
 
@@ -84,19 +117,27 @@ class Closure:
         self.index, self.units, self.can_read, self.newest, self.records = index, of_units(records), can_read, newest, len(records)
         self.versions, self.full, self.lean, self.sizes = {}, {}, {}, {}
 
+    def is_good(self, data):
+        """Returns whether the planner reads a file."""
+        return len(data) <= MOST and (not self.can_read or self.can_read(data))
+
     def read(self, name):
         """Reads the files of a name: all versions, or at most `newest`, the readable ones first."""
+        good, bad, full, lean = {}, {}, set(), set()
         there = sorted(self.index.versions(name), key=by_number, reverse=True)
-        datas = {it: self.index.data(name, it) for it in (there if self.can_read else there[: self.newest])}
-        good = {it for it, data in datas.items() if not self.can_read or self.can_read(data)}
-        kept = sorted(datas, key=lambda it: it not in good)[: self.newest]
-        full, lean = set(), set()
-        for it in kept:
-            if it in good:
-                of_full, of_lean = mentioned(datas[it])
-                full, lean = full | of_full, lean | of_lean
-        self.versions[name] = sorted(kept, key=by_number)
-        self.sizes[name] = sum(len(datas[it]) for it in kept)
+        # So many are refused, whatever stands in them.
+        is_refused = not self.newest and len(there) > MOST_FILES
+        for version in [] if is_refused else there:
+            if self.newest and len(good) == self.newest:
+                break
+            data = self.index.data(name, version)
+            (good if self.is_good(data) else bad)[version] = len(data)
+            if version in good:
+                of_full, of_lean = mentioned(data)
+                full.update(of_full)
+                lean.update(of_lean)
+        kept = dict.fromkeys(there, 0) if is_refused else dict([*good.items(), *bad.items()][: self.newest])
+        self.versions[name], self.sizes[name] = sorted(kept, key=by_number), sum(kept.values())
         units = self.units.get(name, set())
         self.full[name], self.lean[name] = ({it.decode() for it in found} | units for found in (full, lean))
 

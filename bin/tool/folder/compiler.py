@@ -1,6 +1,6 @@
 """Asks a ghc for its version and platform.
 
-In: the ghc of the command line, that of the project, or none for the one on the PATH. Out: its version, its target
+Input: the ghc of the command line, that of the project, or none for the one on the PATH. Output: its version, its target
 system and processor in the planner's words, its global database, and its ghc-pkg. A program of the project is started
 only where the command line names it."""
 
@@ -11,8 +11,10 @@ import shutil
 import subprocess
 import sys
 
+from tool import children
+from tool.ends import status_of_program
 from tool.folder.conditions import Platform
-from tool.folder.project import holding
+from tool.folder.project import holding, repository
 from tool.refusal import Refusal, shown
 
 SYSTEMS = {"darwin": "osx", "mingw32": "windows", "win32": "windows", "cygwin32": "windows", "kfreebsdgnu": "freebsd", "solaris2": "solaris"}
@@ -60,12 +62,12 @@ def here():
 def answer(words):
     """Returns the output of a program."""
     try:
-        ran = subprocess.run(words, stdin=subprocess.DEVNULL, stdout=subprocess.PIPE, stderr=subprocess.PIPE, check=False)
+        ran = children.run(words, stdin=subprocess.DEVNULL, stdout=subprocess.PIPE, stderr=subprocess.PIPE)
     except (OSError, ValueError) as error:
         raise Refusal(f"{shown(words[0])} can't be run: {getattr(error, 'strerror', error)}") from error
     if ran.returncode:
         told = ran.stderr.decode("utf-8", "replace").strip().split("\n")[-1]
-        raise Refusal(f"'{shown(' '.join(words))}' ends with status {ran.returncode}: {shown(told)}")
+        raise Refusal(f"'{shown(' '.join(words))}' ends with status {status_of_program(ran.returncode)}: {shown(told)}")
     return ran.stdout.decode("utf-8", "replace")
 
 
@@ -86,12 +88,7 @@ def chosen(project, given):
 
 def is_inside(path, project):
     """Returns whether a path leads into a project, or into the repository that has the project."""
-    top = os.path.realpath(project)
-    at = top
-    while at != os.path.dirname(at):
-        if os.path.lexists(f"{at}/.git"):
-            top = at
-        at = os.path.dirname(at)
+    top = repository(project) or os.path.realpath(project)
     return os.path.commonpath([top, os.path.realpath(path)]) == top
 
 

@@ -1,6 +1,6 @@
 """The conditions of a project file, before a compiler is known.
 
-In: the text of a condition, and a system and processor. Out: whether it holds: yes, no, or none where that depends on
+Input: the text of a condition, and a system and processor. Output: whether it holds: yes, no, or none where that depends on
 the compiler or on a flag, or where the text can't be read."""
 
 import re

@@ -10,19 +10,20 @@ import re
 
 from tool.folder import closure
 from tool.folder.compiler import chosen, compiler
-from tool.folder.index import index
 from tool.folder.made import CHANGED, INDEX, INSTALLED, OWN, PROJECT, Own
 from tool.folder.older import Misread, is_read, rewritten
-from tool.folder.project import FILES, extra_names, local_files
+from tool.folder.project import FILES, extra_names, local_files, repository
 from tool.folder.records import hash_of, records
+from tool.folder.repositories import index
+from tool.input import MOST, MOST_BYTES, MOST_FILES, content, front
 from tool.names import file_name
-from tool.refusal import Refusal, read
+from tool.refusal import UNPRINTABLE, Refusal, read, shown
 
 
 def copy_of(path, data, say):
     """Returns the bytes to plan with, and the kinds of changes: none if the file stays or can't be rewritten."""
     try:
-        return rewritten(data)
+        return rewritten(data) if len(data) <= MOST else (data, set())
     except Misread as error:
         say(f"{path} isn't rewritten: {error}")
         return data, set()
@@ -30,12 +31,19 @@ def copy_of(path, data, say):
 
 def local_packages(project, is_rewritten, say):
     """Returns for each local file its bytes, the bytes to plan with, and the kinds of changes."""
-    found = {path: read(os.path.join(project, path)) for path in local_files(project)}
+    found, size = {}, 0
+    for path in local_files(project):
+        found[path] = content(os.path.join(project, path))
+        size += len(found[path])
+        if len(found) > MOST_FILES or size > MOST_BYTES:
+            raise Refusal(f"the local files are more than {MOST_FILES}, or have more than {MOST_BYTES} bytes, and the planner reads no more")
+        if UNPRINTABLE.search(path):
+            say(f"{path}: its name can look like a line of a plan; read the plan with --json")
     if is_rewritten:
         return {path: (data, *copy_of(path, data, say)) for path, data in found.items()}
     wrong = [path for path, data in found.items() if not is_read(data)]
     if wrong:
-        raise Refusal(f"{', '.join(wrong)}: the planner reads cabal-version 2.4, 3.0 and 3.4 alone: with --older-headers it plans a rewritten copy")
+        raise Refusal(f"{shown(', '.join(wrong))}: the planner reads cabal-version 2.4, 3.0 and 3.4 alone: with --older-headers it plans a rewritten copy")
     return {path: (data, data, set()) for path, data in found.items()}
 
 
@@ -119,15 +127,19 @@ def fill_installed(to, units):
             to.put(name, it.data)
 
 
-def fill_project(to, project, local, made):
-    """Fills a folder with links to the files of a project, and with copies of its changed local files."""
-    links = {name: f"../../{name}" for name in FILES if os.path.isfile(os.path.join(project, name))}
-    links.update({kind: f"../{name}" for kind, name in made.items()})
-    links.update({path: "../" * (path.count("/") + 2) + path for path, (*_, kinds) in local.items() if not kinds})
+def fill_project(to, project, local, links):
+    """Fills a folder with links to files of a project, and with copies of its changed local files."""
     for path, target in links.items():
         to.link(path, target)
-    for path in (it for it in local if it not in links):
+    for path in (it for it, (*_, kinds) in local.items() if kinds and it not in links):
         to.put(path, local[path][1])
+
+
+def project_links(project, local, made, besides):
+    """Returns for each link in place of a project's file where it leads. `besides` are paths that the plan's words name."""
+    there = [it for it in (*FILES, *besides) if os.path.exists(os.path.join(project, it))]
+    paths = [*there, *(path for path, (*_, kinds) in local.items() if not kinds)]
+    return {**{path: "../" * (path.count("/") + 2) + path for path in paths}, **{kind: f"../{name}" for kind, name in made.items()}}
 
 
 def say_changes(lines, is_rewritten, say):
@@ -140,8 +152,9 @@ def say_changes(lines, is_rewritten, say):
     say(f"{len(lines)} files of the index are rewritten{told}" + f"; {OWN}/index-../{CHANGED} names them" * bool(lines))
 
 
-def made_folder(project, asked, say):
-    """Makes all that the planner reads, and returns the folder to plan in and the words of the environment."""
+def made_folder(project, asked, besides, say):
+    """Makes all that the planner reads, and returns the folder to plan in and the words of the environment. `besides` are
+    paths that the words of the plan name."""
     local = local_packages(project, asked.older_headers, say)
     own = Own(project, say)
     own.check((INDEX, INSTALLED))
@@ -155,39 +168,43 @@ def made_folder(project, asked, say):
     try:
         made = {INSTALLED: own.make(INSTALLED, code() + "\n".join(it.key() for it in units), lambda to: fill_installed(to, units))}
         made[INDEX] = made_index(own, source, wanted, say)
-        return linked(project, own, local, made, asked.older_headers, say), ghc.words()
+        copied = own_project(project, own, local, made, besides, say)
+        return linked(project, own, made, copied, asked.older_headers, say), ghc.words()
     except BaseException:
         own.undo()
         raise
 
 
-def linked(project, own, local, made, is_rewritten, say):
+def linked(project, own, made, copied, is_rewritten, say):
     """Sets the links, prints where they lead, and returns the folder to plan in."""
-    copies = [(path, kinds) for path, (*_, kinds) in local.items() if kinds]
-    names = {*made.values(), own_project(project, own, local, made, say, copies), PROJECT} if copies else {*made.values()}
     for kind, name in made.items():
         own.link(kind, name)
-    own.keep(names)
+    own.keep({*made.values(), copied, PROJECT} if copied else {*made.values()})
     say_changes(own.changes(made[INDEX]).removesuffix("\n").split("\n"), is_rewritten, say)
     say_ignored(project, say)
-    return f"{OWN}/{PROJECT}" if copies else "."
+    return f"{OWN}/{PROJECT}" if copied else "."
 
 
 def say_ignored(project, say):
-    """Prints the lines that `.gitignore` lacks."""
+    """Prints the lines that `.gitignore` lacks, if the project is in a repository of git."""
+    if not repository(project):
+        return
     path = os.path.join(project, ".gitignore")
-    there = read(path).decode("utf-8", "replace").split() if os.path.isfile(path) else []
+    there = front(path).decode("utf-8", "replace").split() if os.path.isfile(path) else []
     lacking = [it for it in (f"/{OWN}/", f"/{INDEX}", f"/{INSTALLED}") if it not in there]
     if lacking:
         say("lines for .gitignore:", *lacking)
 
 
-def own_project(project, own, local, made, say, copies):
-    """Makes the folder in place of a project with rewritten local files, and returns its name."""
-    stated = [(path, hash_of(data), sorted(kinds)) for path, (_, data, kinds) in sorted(local.items())]
-    key = code() + repr((made, [it for it in FILES if os.path.isfile(os.path.join(project, it))], stated))
-    name = own.make(PROJECT, key, lambda to: fill_project(to, project, local, made))
+def own_project(project, own, local, made, besides, say):
+    """Makes the folder in place of a project with rewritten local files, and returns its name; without such files none."""
+    copies = {path: sorted(kinds) for path, (*_, kinds) in sorted(local.items()) if kinds}
+    if not copies:
+        return None
+    links = project_links(project, local, made, besides)
+    key = code() + repr((sorted(links.items()), [(path, hash_of(local[path][1]), kinds) for path, kinds in copies.items()]))
+    name = own.make(PROJECT, key, lambda to: fill_project(to, project, local, links))
     own.link_project(name)
-    for path, kinds in copies:
-        say(f"{path} stays as it is, and a rewritten copy of it is planned, in {OWN}/{PROJECT}: {'; '.join(sorted(kinds))}")
+    for path, kinds in copies.items():
+        say(f"{path} stays as it is, and a rewritten copy of it is planned, in {OWN}/{PROJECT}: {'; '.join(kinds)}")
     return name

@@ -1,18 +1,22 @@
 """Reads an index of packages, as a folder or as the tar that cabal keeps.
 
-In: a path. Out: an index with the versions of a name, and the bytes of each `.cabal` file. A tar is read once as a
+Input: a path. Output: an index with the versions of a name, and the bytes of each `.cabal` file. A tar is read once as a
 stream for the places of its files, and only these are kept. Of several entries of one path the last counts."""
 
+import contextlib
 import os
 import re
 import time
 
+from tool.folder.progress import Progress
+from tool.input import MOST, front
 from tool.names import is_name
-from tool.refusal import Refusal, read
+from tool.refusal import Refusal
 
 BLOCK, CHUNK = 512, 1 << 22
-# The marks of a tar's entry: a file, or a long name of the next entry.
-FILE, LONG_NAME, LONGER, CABAL = (b"0", b"\0"), b"L", (b"L", b"x"), b".cabal\0"
+# The marks of a tar's entry: a file, a long name of the next entry, or records about it.
+FILE, LONG_NAME, RECORDS, CABAL = (b"0", b"\0"), b"L", b"x", b".cabal\0"
+LONGER = (LONG_NAME, RECORDS)
 
 
 def is_version(text):
@@ -28,14 +32,21 @@ class Folder:
     """An index that is a folder: NAME/VERSION/NAME.cabal."""
 
     def __init__(self, path):
-        self.path, self.told, self.stamp = os.path.abspath(path), path, None
+        self.path, self.told, self.stamp, self.names = os.path.abspath(path), path, None, set()
 
     def open(self):
-        """Does nothing: a folder is read when needed."""
+        """Refuses a folder without any package. Its files are read when needed."""
+        try:
+            self.names = {it for it in os.listdir(self.path) if is_name(it, "package")}
+            has_any = any(self.versions(it) for it in self.names)
+        except OSError as error:
+            raise Refusal(f"{self.path} can't be read: {error.strerror}") from error
+        if not has_any:
+            raise Refusal(f"{self.told} has no file NAME/VERSION/NAME.cabal: --index takes a folder of these, or a tar")
 
     def versions(self, name):
         """Returns the versions of a name."""
-        if not is_name(name, "package"):
+        if name not in self.names:
             return []
         try:
             there = os.listdir(f"{self.path}/{name}")
@@ -46,7 +57,7 @@ class Folder:
         return [it for it in there if is_version(it) and os.path.isfile(f"{self.path}/{name}/{it}/{name}.cabal")]
 
     def data(self, name, version):
-        return read(f"{self.path}/{name}/{version}/{name}.cabal")
+        return front(f"{self.path}/{name}/{version}/{name}.cabal")
 
     def target(self, name, version):
         """Returns the folder of a version, for a link to it."""
@@ -73,49 +84,70 @@ class Tar:
 
     def open(self):
         """Finds the places of the files."""
-        begun = time.monotonic()
+        begun, progress = time.monotonic(), Progress(f"reads {self.told}", self.size)
         try:
-            count = self.scan()
+            count = self.scan(progress)
         except OSError as error:
             raise Refusal(f"{self.path} can't be read: {error.strerror}") from error
+        finally:
+            progress.end()
+        if not count:
+            raise Refusal(f"{self.told} has no file NAME/VERSION/NAME.cabal: is it the tar of a package server?")
         self.told += f", which has {count} .cabal files in {self.size} bytes and was read in {time.monotonic() - begun:.1f} s"
 
-    def scan(self):
+    def bytes_at(self, at, count):
+        return os.pread(self.file.fileno(), count, at)
+
+    def scan(self, progress):
         """Finds the places of all `.cabal` files, and returns how many there are."""
-        at, buffer, start, longer, whole = 0, b"", 0, None, self.size
+        at, buffer, start, longer, larger = 0, b"", 0, None, None
         while True:
             place = at - start
             if place + BLOCK > len(buffer):
-                buffer, start, place = os.pread(self.file.fileno(), CHUNK, at), at, 0
+                buffer, start, place = self.bytes_at(at, CHUNK), at, 0
+                progress.at(at)
                 if len(buffer) < BLOCK:
-                    raise Refusal(f"{self.path} is cut off: it ends at byte {whole} without the mark of its end; fetch it again: cabal update")
+                    raise Refusal(f"{self.path} is cut off: it ends at byte {self.size} without the mark of its end; fetch it again: cabal update")
             if not buffer[place] and not buffer[place : place + BLOCK].strip(b"\0"):
                 return sum(map(len, self.places.values()))
-            try:
-                size = int(buffer[place + 124 : place + 135], 8)
-            except ValueError:
-                size = -1
-            if size < 0 or buffer[place + 257 : place + 262] != b"ustar":
-                size = self.size_of(buffer[place : place + BLOCK], at)
-            if at + BLOCK + size > whole:
-                raise Refusal(
-                    f"{self.path} is cut off: its entry at byte {at} has {size} bytes, and it ends at byte {whole}; fetch it again: cabal update"
-                )
             kind = buffer[place + 156 : place + 157]
+            size = larger if larger is not None and kind not in LONGER else self.size_of(buffer, place, at)
+            if at + BLOCK + size > self.size:
+                raise Refusal(
+                    f"{self.path} is cut off: its entry at byte {at} has {size} bytes, and it ends at byte {self.size}; fetch it again: cabal update"
+                )
             if kind in LONGER:
-                longer = long_name(kind, os.pread(self.file.fileno(), size, at + BLOCK)) or longer
-            elif longer or buffer[place + 345] or CABAL in buffer[place : place + 100]:
-                if kind in FILE:
+                path, bigger = self.about_next(kind, at + BLOCK, size)
+                longer, larger = path or longer, larger if bigger is None else bigger
+            else:
+                if kind in FILE and (longer or buffer[place + 345] or CABAL in buffer[place : place + 100]):
                     self.note(longer or name_of(buffer[place : place + BLOCK]), at + BLOCK, size)
-                longer = None
+                longer = larger = None
             at += BLOCK + (size + BLOCK - 1) // BLOCK * BLOCK
 
-    def size_of(self, head, at):
-        """Returns how many bytes an unusual entry has."""
+    def about_next(self, kind, at, size):
+        """Returns the path and the size that an entry gives the next one, or none for each."""
+        if size > MOST:
+            raise Refusal(f"{self.path} has {size} bytes about one entry at byte {at}, and the tool reads at most {MOST}")
+        data = self.bytes_at(at, size)
+        if kind == LONG_NAME:
+            return data.rstrip(b"\0"), None
+        told = records(data)
+        if told is None or not told.get(b"size", b"0").isdigit():
+            raise Refusal(f"{self.path} has records at byte {at} that can't be read")
+        return told.get(b"path"), int(told[b"size"][:20]) if b"size" in told else None
+
+    def size_of(self, buffer, place, at):
+        """Returns how many bytes an entry has."""
+        field = buffer[place + 124 : place + 136]
+        if field[11] in b"\0 " and field[:11].isdigit() and buffer[place + 257 : place + 262] == b"ustar":
+            with contextlib.suppress(ValueError):
+                return int(field[:11], 8)
+        head = buffer[place : place + BLOCK]
         if head[257:262] != b"ustar" and sum(head[:148]) + sum(head[156:]) + 8 * 32 != number(head[148:156]):
             packed = ": it is compressed, so unpack it first, with gunzip -k" if head[:2] == b"\x1f\x8b" and at == 0 else ""
             raise Refusal(f"{self.path} isn't a tar at byte {at}{packed}")
-        size = number(head[124:136])
+        size = number(field)
         if size is None:
             raise Refusal(f"{self.path} has an entry without a size at byte {at}")
         return size
@@ -123,17 +155,21 @@ class Tar:
     def note(self, path, at, size):
         """Keeps the place of a file if it is the `.cabal` file of a version."""
         parts = path.decode("utf-8", "replace").removeprefix("./").split("/")
-        if len(parts) == 3 and parts[2] == f"{parts[0]}.cabal" and is_version(parts[1]):
+        if len(parts) == 3 and parts[2] == f"{parts[0]}.cabal" and is_version(parts[1]) and is_name(parts[0], "package"):
             self.places.setdefault(parts[0], {})[parts[1]] = at, size
 
     def versions(self, name):
         """Returns the versions of a name."""
         return list(self.places.get(name, ()))
 
+    def has(self, name, version):
+        return version in self.places.get(name, ())
+
     def data(self, name, version):
         at, size = self.places[name][version]
-        found = os.pread(self.file.fileno(), size, at)
-        if len(found) < size:
+        # Of a file that is too large for the planner no more is kept than shows this.
+        found = self.bytes_at(at, min(size, MOST + 1))
+        if len(found) < min(size, MOST + 1):
             raise Refusal(f"{self.path} was changed while it was read: run this again")
         return found
 
@@ -157,40 +193,15 @@ def name_of(head):
     return prefix + b"/" + name if prefix else name
 
 
-def long_name(kind, data):
-    """Returns the path that an entry gives the next one."""
-    if kind == LONG_NAME:
-        return data.rstrip(b"\0")
-    found = re.search(rb"(?:^|\n)\d+ path=([^\n]*)\n", data)
-    return found[1] if found else None
-
-
-def places():
-    """Returns the folders where cabal keeps the tars of its servers."""
-    home = os.path.expanduser("~")
-    cache = os.environ.get("XDG_CACHE_HOME") or f"{home}/.cache"
-    given = [os.environ["CABAL_DIR"]] if os.environ.get("CABAL_DIR") else []
-    return [f"{it}/packages" for it in dict.fromkeys([*given, f"{home}/.cabal", f"{cache}/cabal"])]
-
-
-def found_tars():
-    """Returns the tars that cabal has fetched."""
-    found = []
-    for place in places():
-        servers = sorted(os.listdir(place)) if os.path.isdir(place) else []
-        found += [f"{place}/{it}/01-index.tar" for it in servers if os.path.isfile(f"{place}/{it}/01-index.tar")]
-    return list({os.path.realpath(it): it for it in reversed(found)}.values())
-
-
-def index(asked):
-    """Returns the index of this path, or the one that cabal has fetched."""
-    if not asked:
-        tars = found_tars()
-        if not tars:
-            raise Refusal(f"there is no 01-index.tar in {', '.join(places())}: run 'cabal update', or name a folder or a tar by --index=PATH")
-        if len(tars) > 1:
-            raise Refusal(f"cabal has several indexes: name one of them by --index=PATH: {' '.join(tars)}")
-        asked = tars[0]
-    if not os.path.exists(asked):
-        raise Refusal(f"there is no {asked}: --index takes a folder of NAME/VERSION/NAME.cabal, or a tar")
-    return Folder(asked) if os.path.isdir(asked) else Tar(asked)
+def records(data):
+    """Returns the records of an entry about the next one, `LENGTH NAME=VALUE` in lines, or none if they can't be read."""
+    found, at = {}, 0
+    while at < len(data):
+        blank = data.find(b" ", at, at + 8)
+        length = data[at:blank] if blank > 0 else b""
+        end = at + int(length) if length.isdigit() else 0
+        if not blank < end <= len(data) or data[end - 1 : end] != b"\n":
+            return None
+        name, mark, value = data[blank + 1 : end - 1].partition(b"=")
+        found[name], at = value, end
+    return found

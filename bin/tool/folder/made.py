@@ -1,6 +1,6 @@
 """The tool's own folder in a project, with what the planner reads, and the links to it.
 
-In: the files to write. Out: links beside the project's files. The files are written into a new folder, named by a
+Input: the files to write. Output: links beside the project's files. The files are written into a new folder, named by a
 hash of their sources; then a link is set to it. So a run that is ended at any time leaves the earlier state, and a
 second run changes nothing.
 

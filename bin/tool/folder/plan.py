@@ -1,12 +1,13 @@
 """Runs the planner over the made folder, and counts which files it still skips.
 
-In: the words to plan with. Out: what the planner prints, its status, and a count of its `skipped` lines by their cause."""
+Input: the words to plan with. Output: what the planner prints, its status, and a count of its `skipped` lines by their cause."""
 
 import collections
 import re
 import subprocess
 import sys
 
+from tool import children
 from tool.ends import status_of_program
 from tool.refusal import Refusal
 
@@ -28,7 +29,7 @@ def count(output, say):
 def answer(words, where):
     """Returns the planner's output and status."""
     try:
-        ran = subprocess.run(words, cwd=where, stdin=subprocess.DEVNULL, stdout=subprocess.PIPE, check=False)
+        ran = children.run(words, cwd=where, stdin=subprocess.DEVNULL, stdout=subprocess.PIPE)
     except OSError as error:
         raise Refusal(f"{words[0]} can't be run: {error.strerror}") from error
     return ran.stdout, status_of_program(ran.returncode)

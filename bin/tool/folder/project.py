@@ -1,16 +1,19 @@
 """Reads the parts of a project on the packages that it needs.
 
-In: its folder. Out: its project files, its local `.cabal` files by the planner's rules, and the names of
+Input: its folder. Output: its project files, its local `.cabal` files by the planner's rules, and the names of
 `extra-packages`. For these fields under all conditions count; `holding` is for those under conditions that hold. It
 leaves refusals to the planner."""
 
+import functools
 import os
 import re
 
 from tool.folder import conditions
 from tool.elements import Field, Misread, elements, walk
 from tool.folder.older import decoded
-from tool.refusal import Refusal, read
+from tool.folder.patterns import Entries
+from tool.input import content
+from tool.refusal import Refusal
 
 FILES = ("cabal.project", "cabal.project.freeze", "cabal.project.local")
 REFUSED = re.compile(r"^[/~]|\*\*|[{}]|://|(^|/)\.\.(/|$)")
@@ -43,53 +46,30 @@ def kept(items, platform):
         is_open = holds is False
 
 
+@functools.lru_cache(maxsize=None)
 def read_elements(folder, file):
     """Returns the elements of a project file, or none if it is missing."""
     path = os.path.join(folder, file)
-    if not os.path.isfile(path):
+    if not os.path.exists(path):
         return []
     try:
-        return elements(decoded(read(path))[0])[0]
+        return elements(decoded(content(path))[0])[0]
     except Misread as error:
         raise Refusal(f"{file} can't be read: {error}") from error
 
 
-def matches(folder, entry):
-    """Returns the paths that an entry matches, relative to the folder."""
-    found = [""]
-    for name in (it for it in entry.split("/") if it not in ("", ".")):
-        if "*" not in name:
-            found = [it for it in (f"{at}{name}" for at in found) if os.path.lexists(os.path.join(folder, it))]
-        else:
-            fits = re.compile(".*".join(map(re.escape, name.split("*"))), re.S)
-            found = [f"{at}{it}" for at in found for it in listed(os.path.join(folder, at)) if fits.fullmatch(it) and (it[0] != "." or name[0] == ".")]
-        found = [f"{it}/" for it in found]
-    return [it.rstrip("/") or "." for it in found]
-
-
-def listed(folder):
-    return sorted(os.listdir(folder)) if os.path.isdir(folder) else []
-
-
 def of_entry(folder, entry):
     """Returns the `.cabal` files of an entry."""
-    found = []
-    for path in matches(folder, entry):
-        whole = os.path.join(folder, path)
-        if os.path.isdir(whole):
-            names = [it for it in listed(whole) if it.endswith(".cabal") and os.path.isfile(os.path.join(whole, it))]
-            found += [os.path.normpath(os.path.join(path, it)) for it in names]
-        elif path.endswith(".cabal") and not entry.endswith("/"):
-            found.append(os.path.normpath(path))
-    return found
+    return Entries(folder).files(entry)
 
 
 def local_files(folder):
     """Returns the local `.cabal` files, relative to the folder."""
     has_project = os.path.isfile(os.path.join(folder, "cabal.project"))
     texts = fields(folder, "packages") + fields(folder, "optional-packages") + ["./*.cabal"] * (not has_project)
-    entries = [it for text in texts for it in re.split(r"[,\s]+", text) if it and not REFUSED.search(it)]
-    found = sorted({path for it in entries for path in of_entry(folder, it)})
+    written = dict.fromkeys(it for text in texts for it in re.split(r"[,\s]+", text) if it and not REFUSED.search(it))
+    entries = Entries(folder)
+    found = sorted({path for it in written for path in entries.files(it)})
     if not found:
         raise Refusal(f"no local package is here: run this in the folder of a package or project{', or correct packages in cabal.project' * has_project}")
     return found
@@ -99,3 +79,14 @@ def extra_names(folder):
     """Returns the names of `extra-packages`."""
     entries = [it.strip() for text in fields(folder, "extra-packages") for it in text.split(",")]
     return {it[0] for it in (re.match(r"[A-Za-z0-9-]+", entry) for entry in entries) if it}
+
+
+def repository(folder):
+    """Returns the outermost folder at or above this one that has a repository of git, or none."""
+    found, at = None, os.path.realpath(folder)
+    while True:
+        if os.path.lexists(f"{at}/.git"):
+            found = at
+        if at == os.path.dirname(at):
+            return found
+        at = os.path.dirname(at)

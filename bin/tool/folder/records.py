@@ -1,6 +1,6 @@
 """Finds the records of installed units.
 
-In: a compiler. Out: the records of its global database, and then those of cabal's store for it. A record has its
+Input: a compiler. Output: the records of its global database, and then those of cabal's store for it. A record has its
 unit, its package and the units that it needs, and a path to link to, or its bytes if it is from a dump."""
 
 import hashlib
@@ -9,7 +9,8 @@ import re
 
 from tool.folder.compiler import answer
 from tool.names import file_name
-from tool.refusal import Refusal, read, shown
+from tool.input import content
+from tool.refusal import Refusal, shown
 
 ID = re.compile(rb"(?im)^id[ \t]*:\s*(\S+)")
 NAME = re.compile(rb"(?im)^name[ \t]*:\s*(\S+)")
@@ -68,7 +69,7 @@ def records_of(database, ghc):
     name begins with a dot is an editor's."""
     names = sorted(it for it in os.listdir(database) if it.endswith(END) and not it.startswith("."))
     if names:
-        return [Record(f"{database}/{it}", read(f"{database}/{it}"), f"{database}/{it}") for it in names]
+        return [Record(f"{database}/{it}", content(f"{database}/{it}"), f"{database}/{it}") for it in names]
     program = ghc.ghc_pkg()
     if not program:
         raise Refusal(f"{database} has no files of records, and no ghc-pkg stands beside {ghc.path}, which would say what it has")

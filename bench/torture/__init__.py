@@ -1,0 +1,1 @@
+"""What the program does where the system refuses it something, and with files that nobody would write."""
