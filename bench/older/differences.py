@@ -1,0 +1,111 @@
+"""Two readings of one package by Cabal: of a file, and of the one that stands in for it. In: both. Out: what differs for planning."""
+
+import re
+
+from tokens import flat
+
+# The fields that planning reads, and the sections with them. An error in any other field is none for the planner.
+SEEN = {"name", "version", "cabal-version", "build-type", "build-depends", "setup-depends", "build-tool-depends", "build-tools", "buildable"} | {
+    "visibility", "import", "default", "manual", "executable",
+}  # fmt: skip
+READ = {"2.4": "2.4", "3.0": "3.0", "3.4": "3.4"}
+# What cabal-install 3.4 adds to the setup script of a package with an older header, and the version from which it has Cabal at most.
+LEGACY = set("array base binary bytestring containers deepseq directory filepath pretty process time transformers unix ghc-prim template-haskell".split())
+ENDS = "<1.25"
+
+
+def blanked(content, parsed):
+    """Returns the content with empty lines in place of fields that planning doesn't see and that Cabal refuses, and their names; or none if an
+    error is elsewhere."""
+    found = list(flat(parsed.get("elements", ())))
+    lines, names = content.split(b"\n"), set()
+    starts = [it["line"] for _, it in found]
+    for line, _ in parsed["errors"]:
+        at = max((at for at, start in enumerate(starts) if start <= line), default=None)
+        if at is None or line == 0 or "section" in found[at][1] or found[at][1]["field"] in SEEN or starts.count(starts[at]) > 1:
+            return None, set()
+        end = next((start for start in starts[at + 1 :]), len(lines) + 1)
+        lines[starts[at] - 1 : end - 1] = [b"\r" if it.endswith(b"\r") else b"" for it in lines[starts[at] - 1 : end - 1]]
+        names.add(found[at][1]["field"])
+    return b"\n".join(lines), names
+
+
+def setup(package):
+    """Returns the setup dependencies of a package, implicit ones too, in order. Those that cabal-install adds at any version don't count."""
+    if package["setup"] is None:
+        if package["build-type"] != "Custom":
+            return None
+        return ["base"] if package["name"] == "Cabal" else [f"Cabal >={package['least-library']} && {ENDS}", "base"]
+    implicit = package["build-type"] == "Custom" and any(it.endswith(ENDS) for it in package["setup"])
+    return sorted(it for it in package["setup"] if not (implicit and it in LEGACY - {"base"}))
+
+
+def plain(name):
+    """Returns the name of a component with `_` in place of what the planner doesn't read."""
+    return re.sub(r"[^A-Za-z0-9_-]", "_", name)
+
+
+def renames(before, after):
+    """Returns the new names of components by the old ones, each of them the plain one with further `_`."""
+    pairs = [(old["name"], new["name"]) for old, new in zip(before["components"], after["components"]) if old["kind"] == new["kind"] != "library"]
+    return {old: new for old, new in pairs if old != new and new.rstrip("_") == plain(old.strip('"')).rstrip("_")}
+
+
+def tools(of, package, names):
+    """Returns the tools of a node of a tree in order, with the new names of own ones."""
+    own = f"{package}:"
+    return sorted(own + names.get(it[len(own) :], it[len(own) :]) if it.startswith(own) else it for it in of["tools"])
+
+
+def tree(before, after, package, names, where):
+    """Yields what differs between two trees of conditions."""
+    if before is None or after is None:
+        if before is not after:
+            yield f"{where} else", "none" if before is None else "one", "none" if after is None else "one"
+        return
+    if before["buildable"] != after["buildable"]:
+        yield f"{where} buildable", before["buildable"], after["buildable"]
+    if sorted(before["depends"]) != sorted(after["depends"]):
+        yield f"{where} dependencies", ", ".join(before["depends"]), ", ".join(after["depends"])
+    elif before["depends"] != after["depends"]:
+        yield f"{where} order of dependencies", ", ".join(before["depends"]), ", ".join(after["depends"])
+    if tools(before, package, names) != tools(after, package, {}):
+        yield f"{where} tools", ", ".join(before["tools"]), ", ".join(after["tools"])
+    conditions = [[it["if"] for it in side["branches"]] for side in (before, after)]
+    if conditions[0] != conditions[1]:
+        yield f"{where} conditions", "; ".join(conditions[0]), "; ".join(conditions[1])
+        return
+    for old, new in zip(before["branches"], after["branches"]):
+        yield from tree(old["then"], new["then"], package, names, f"{where} if")
+        yield from tree(old["else"], new["else"], package, names, f"{where} else")
+
+
+def nearest(spec):
+    return READ.get(spec, "2.4")
+
+
+def flags(package):
+    return [f"{it['name']} {'on' if it['default'] else 'off'}{' manual' if it['manual'] else ''}" for it in package["flags"]]
+
+
+def differences(before, after):
+    """Yields what differs: where, before, and after."""
+    if after["spec"] != nearest(before["spec"]):
+        yield "header", before["spec"], after["spec"]
+    for what in ("name", "version", "build-type"):
+        if before[what] != after[what]:
+            yield what, before[what], after[what]
+    if setup(before) != setup(after):
+        yield "setup", setup(before), setup(after)
+    if flags(before) != flags(after):
+        yield "flags", flags(before), flags(after)
+    names = renames(before, after)
+    sides = [[f"{it['kind']} {new.get(it['name'], it['name'])} {it['visibility'] or ''}".strip() for it in side["components"]] for side, new in ((before, names), (after, {}))]
+    if sides[0] != sides[1]:
+        yield "components", sides[0], sides[1]
+        return
+    for old, new in zip(before["components"], after["components"]):
+        yield from tree(old["tree"], new["tree"], before["name"], names, old["kind"])
+
+
+__all__ = ["blanked", "differences"]
