@@ -45,10 +45,15 @@ def plain(name):
     return re.sub(r"[^A-Za-z0-9_-]", "_", name)
 
 
+def is_renamed(old, new):
+    """Returns whether a component keeps its name, or gets the plain one with further `_`."""
+    return old == new or (old != plain(old) and new.rstrip("_") == plain(old.strip('"')).rstrip("_"))
+
+
 def renames(before, after):
-    """Returns the new names of components by the old ones, each of them the plain one with further `_`."""
-    pairs = [(old["name"], new["name"]) for old, new in zip(before["components"], after["components"]) if old["kind"] == new["kind"] != "library"]
-    return {old: new for old, new in pairs if old != new and new.rstrip("_") == plain(old.strip('"')).rstrip("_")}
+    """Returns the new names of executables by the old ones."""
+    pairs = zip(before["components"], after["components"])
+    return {old["name"]: new["name"] for old, new in pairs if old["kind"] == new["kind"] == "executable" and is_renamed(old["name"], new["name"])}
 
 
 def tools(of, package, names):
@@ -88,6 +93,15 @@ def flags(package):
     return [f"{it['name']} {'on' if it['default'] else 'off'}{' manual' if it['manual'] else ''}" for it in package["flags"]]
 
 
+def are_same(before, after):
+    """Returns whether two lists of components are the same up to names, each of which is taken once for its kind."""
+    named = [(it["kind"], it["name"]) for it in after]
+    is_once = len(set(named)) == len(named) or len({(it["kind"], it["name"]) for it in before}) < len(before)
+    pairs = zip(before, after)
+    alike = all(old["kind"] == new["kind"] and old["visibility"] == new["visibility"] and is_renamed(old["name"], new["name"]) for old, new in pairs)
+    return is_once and alike and len(before) == len(after)
+
+
 def differences(before, after):
     """Yields what differs: where, before, and after."""
     if after["spec"] != nearest(before["spec"]):
@@ -99,11 +113,11 @@ def differences(before, after):
         yield "setup", setup(before), setup(after)
     if flags(before) != flags(after):
         yield "flags", flags(before), flags(after)
-    names = renames(before, after)
-    sides = [[f"{it['kind']} {new.get(it['name'], it['name'])} {it['visibility'] or ''}".strip() for it in side["components"]] for side, new in ((before, names), (after, {}))]
-    if sides[0] != sides[1]:
+    if not are_same(before["components"], after["components"]):
+        sides = [[f"{it['kind']} {it['name']} {it['visibility'] or ''}".strip() for it in side["components"]] for side in (before, after)]
         yield "components", sides[0], sides[1]
         return
+    names = renames(before, after)
     for old, new in zip(before["components"], after["components"]):
         yield from tree(old["tree"], new["tree"], before["name"], names, old["kind"])
 

@@ -11,6 +11,7 @@ KINDS = (
     ("sign", re.compile(r"[()\[\]]")),
 )
 BLANKS = " \t"
+BEYOND = re.compile(r"[^\x00-\x7f]+")
 
 
 def tokens(text):
@@ -31,17 +32,24 @@ def tokens(text):
     return found
 
 
-def plain(element):
-    """Returns an element with args as tokens and without blanks around its values. Empty values don't count."""
+def named(text):
+    """Returns a name in lower case. Cabal changes its bytes beyond ASCII one by one, so these count as one sign."""
+    return BEYOND.sub("\ufffd", text.lower())
+
+
+def plain(element, is_utf8):
+    """Returns an element with args as tokens and without blanks around its values. Empty values don't count, nor in a file that isn't UTF-8 which
+    signs beyond ASCII there are."""
+    known = (lambda text: text) if is_utf8 else (lambda text: BEYOND.sub("\ufffd", text))
     if "field" in element:
-        values = [it.replace("\u00a0", " ").strip(BLANKS) for it in element["values"]]
-        return {"field": element["field"].lower(), "line": element["line"], "values": [it for it in values if it]}
-    args = element["args"]
+        values = [known(it.replace("\u00a0", " ").strip(BLANKS)) for it in element["values"]]
+        return {"field": named(element["field"]), "line": element["line"], "values": [it for it in values if it]}
+    args = tokens(element["args"]) if isinstance(element["args"], str) else element["args"]
     return {
-        "section": element["section"].lower(),
+        "section": named(element["section"]),
         "line": element["line"],
-        "args": tokens(args) if isinstance(args, str) else args,
-        "items": [plain(it) for it in element["items"]],
+        "args": [[kind, known(it)] for kind, it in args],
+        "items": [plain(it, is_utf8) for it in element["items"]],
     }
 
 
