@@ -14,20 +14,47 @@ LEGACY = set("array base binary bytestring containers deepseq directory filepath
 ENDS = "<1.25"
 
 
+def field_at(found, line):
+    """Returns the place of the field with this line among elements, if planning doesn't see it; else none."""
+    at = max((at for at, (_, it) in enumerate(found) if it["line"] <= line), default=None)
+    return None if at is None or line == 0 or found[at][1].get("field", "build-depends") in SEEN else at
+
+
+def is_unseen(parsed):
+    """Returns whether Cabal refuses only fields that planning doesn't see."""
+    found = list(flat(parsed.get("elements", ())))
+    return "errors" in parsed and all(field_at(found, line) is not None for line, _ in parsed["errors"])
+
+
 def blanked(content, parsed):
     """Returns the content with empty lines in place of fields that planning doesn't see and that Cabal refuses, and their names; or none if an
-    error is elsewhere."""
+    error is elsewhere, or in a field that shares its lines."""
     found = list(flat(parsed.get("elements", ())))
-    lines, names = content.split(b"\n"), set()
+    parts, names = re.split(rb"(\r\n|\n|\r)", content), set()
     starts = [it["line"] for _, it in found]
     for line, _ in parsed["errors"]:
-        at = max((at for at, start in enumerate(starts) if start <= line), default=None)
-        if at is None or line == 0 or "section" in found[at][1] or found[at][1]["field"] in SEEN or starts.count(starts[at]) > 1:
+        at = field_at(found, line)
+        taken = None if at is None or starts.count(starts[at]) > 1 else places(parts[::2], starts[at], len(found[at][1]["values"]))
+        if taken is None:
             return None, set()
-        end = next((start for start in starts[at + 1 :]), len(lines) + 1)
-        lines[starts[at] - 1 : end - 1] = [b"\r" if it.endswith(b"\r") else b"" for it in lines[starts[at] - 1 : end - 1]]
+        for place in taken:
+            parts[2 * place] = b""
         names.add(found[at][1]["field"])
-    return b"\n".join(lines), names
+    return b"".join(parts), names
+
+
+def places(lines, start, count):
+    """Returns the places of the lines of a field that begins on a line and has so many values, or none if it is in braces."""
+    value = lines[start - 1].partition(b":")[2].strip()
+    found, left = [start - 1], count - bool(value)
+    for place in range(start, len(lines)):
+        text = lines[place].strip()
+        if left <= 0:
+            break
+        if text and not text.startswith(b"--"):
+            found.append(place)
+            left -= 1
+    return None if value.startswith(b"{") or (len(found) > 1 and lines[found[1]].strip().startswith(b"{")) else found
 
 
 def setup(package):
@@ -47,7 +74,8 @@ def plain(name):
 
 def is_renamed(old, new):
     """Returns whether a component keeps its name, or gets the plain one with further `_`."""
-    return old == new or (old != plain(old) and new.rstrip("_") == plain(old.strip('"')).rstrip("_"))
+    is_odd = plain(old) != old or not old
+    return old == new or (is_odd and new.rstrip("_") in (plain(old).rstrip("_"), plain(old.strip('"')).rstrip("_")))
 
 
 def renames(before, after):
@@ -122,4 +150,4 @@ def differences(before, after):
         yield from tree(old["tree"], new["tree"], before["name"], names, old["kind"])
 
 
-__all__ = ["blanked", "differences"]
+__all__ = ["blanked", "differences", "is_unseen"]

@@ -72,7 +72,7 @@ def compare(cabal, files, program, rows):
         elif "elements" in theirs:
             rows.add(path, "refusal", "read", str(ours["refused"]), f"read by Cabal, refused here: {class_of(str(ours['refused']))}")
         elif "elements" in ours:
-            rows.add(path, "refusal", error_of(theirs), "read", f"refused by Cabal, read here: {class_of(error_of(theirs))}")
+            rows.add(path, "refusal", error_of(theirs), "read", "refused by Cabal, read here")
         else:
             rows.note("refused by both")
 

@@ -1,15 +1,21 @@
 #!/usr/bin/env python3
 """Makes small `.cabal` files by rule: each form of a file under each header.
 
-    bench/older/made.py FOLDER
+    bench/older/made.py [--drawn COUNT] FOLDER
 
-It writes FOLDER/FORM/HEADER.cabal: the forms are those of rules (`RULES`), of the layout (`LAYOUTS`), and of the header itself (`HEADS`, which come
-once each). It needs a folder that doesn't exist yet. Ends with 0, and 64 on other words."""
+It writes FOLDER/FORM/HEADER.cabal: the forms are those of rules (`RULES`), of the layout (`LAYOUTS`), and of the header itself (`SAID`, `PLACED`),
+which come once each. With --drawn it writes that many random layouts and packages instead. It needs a folder that doesn't exist yet. Ends with 0; 64 on other
+words, and 70 where a file can't be written."""
 
 import argparse
 import os
 import re
 import sys
+
+sys.dont_write_bytecode = True
+
+from drawn import drawn
+from drawn_packages import drawn_package
 
 # The headers that each form gets: none, a least version, and a version alone.
 LEAST = ("1.0", "1.2", "1.4", "1.6", "1.8", "1.10", "1.12", "1.18", "1.20", "1.22", "1.24", "2.0")
@@ -467,6 +473,33 @@ LAYOUTS = {
     "section-args-quoted": TYPED + 'executable "e"\n  main-is: M.hs\n',
     "section-empty": TYPED + "library\nexecutable e\n  main-is: M.hs\n",
     "section-twice": TYPED + "flag f\n  default: False\nflag g\n  default: False\n" + LIBRARY,
+    "closing-else-nested": TYPED + FLAG + "library\n  if flag(f)\n    if os(osx) {\n      build-depends: a\n    } else {\n      build-depends: b\n    }\n  buildable: False\n",
+    "closing-else": TYPED + FLAG + "library\n  if flag(f) {\n    build-depends: a\n  } else {\n    build-depends: b\n  }\n  buildable: False\n",
+    "closing-else-no-blank": TYPED + FLAG + "library\n  if flag(f) {\n    build-depends: a\n  }else{\n    build-depends: b\n  }\n  buildable: False\n",
+    "closing-else-blanks": TYPED + FLAG + "library\n  if flag(f)\n    if os(osx) {\n      build-depends: a\n    }    else {\n      build-depends: b\n    }\n",
+    "closing-else-layout": TYPED + FLAG + "library\n  if flag(f) {\n    build-depends: a\n  } else\n    build-depends: b\n  buildable: False\n",
+    "closing-deeper": TYPED + "library {\n  ghc-options: -Wall\n    }\n}\n",
+    "closing-deeper-empty": TYPED + "library {\n  ghc-options:\n    }\n}\n",
+    "closing-deeper-section": TYPED + FLAG + "library {\n  if flag(f)\n      }\n",
+    "closing-field-lines": TYPED + FLAG + "library\n  if flag(f) {\n    build-depends: a\n  }   build-depends: b,\n        c\n  buildable: False\n",
+    "closing-inline-field-lines": TYPED + "library { build-depends: a } synopsis: b\n  c\n",
+    "own-line-field": TYPED + "library\n{ build-depends: a,\n    b\n  buildable: False\n}\n",
+    "own-line-field-closed": TYPED + "library\n{ build-depends: a }\n}\n",
+    "own-line-section": TYPED + FLAG + "library\n{ if flag(f) {\n    build-depends: a\n  }\n}\n",
+    "own-line-empty": TYPED + "library\n{}\nexecutable e\n  main-is: M.hs\n",
+    "inline-field-next-line": TYPED + "library { build-depends:\nbase\n}\n",
+    "inline-field-remark": TYPED + "library { ghc-options: a -- b\n  build-depends: base\n}\n",
+    "inline-section-open": TYPED + FLAG + "library { if flag(f)\n  build-depends: a\n}\n",
+    "field-braces-remark-first": library("ghc-options: { -- a", "b", "}"),
+    "field-braces-closing-remark": library("ghc-options: { a } -- b", "buildable: False"),
+    "field-braces-closing-lines": library("ghc-options: {", "a", "} buildable: False"),
+    "args-remark-joined": TYPED + "executable e--f\n  main-is: M.hs\n",
+    "args-remark-bracket": TYPED + FLAG + "library\n  if flag(f)--a\n    build-depends: a\n",
+    "args-brace-quoted": TYPED + 'executable "e { f" {\n  main-is: M.hs\n}\n',
+    "args-quote-open": TYPED + 'executable "e\n  main-is: M.hs\n',
+    "nbsp-continued": TYPED + "library\n  build-depends: base,\n\u00a0\u00a0bytes\n",
+    "nbsp-continued-deeper": TYPED + "library\n  ghc-options: a\n\u00a0\u00a0\u00a0b\n",
+    "mark-twice": "\ufeff\ufeff" + TYPED + LIBRARY,
     "deep": TYPED + FLAG + "library\n" + "".join("  " + " " * depth + "if flag(f)\n" for depth in range(1, 61)) + " " * 64 + "build-depends: a\n",
     "deeper": TYPED + FLAG + "library\n" + "".join("  " + " " * depth + "if flag(f)\n" for depth in range(1, 71)) + " " * 74 + "build-depends: a\n",
     "deep-braces": TYPED + FLAG + "library {\n" + "if flag(f) {\n" * 60 + "build-depends: a\n" + "}\n" * 61,
@@ -549,19 +582,28 @@ def files():
     yield from ((f"{path}.cabal", text.encode()) for path, text in heads())
 
 
+def random_files(count):
+    """Yields so many random files of each kind: layouts and packages."""
+    for number in range(count):
+        yield f"layout-{number // 100:04}/{number:06}.cabal", drawn(number)
+        yield f"package-{number // 100:04}/{number:06}.cabal", drawn_package(number)
+
+
 class Words(argparse.ArgumentParser):
     def error(self, message):
         self.exit(64, f"made.py: {message}; --help lists the words\n")
 
 
 def main(words):
-    parser = Words(prog="made.py", usage="bench/older/made.py FOLDER", description="Makes small .cabal files by rule.", allow_abbrev=False)
+    parser = Words(prog="made.py", usage="bench/older/made.py [--drawn COUNT] FOLDER", description="Makes small .cabal files by rule.", allow_abbrev=False)
+    parser.add_argument("--drawn", metavar="COUNT", type=int, help="that many random layouts and packages instead")
     parser.add_argument("folder", metavar="FOLDER", help="a folder that doesn't exist yet")
-    folder = parser.parse_args(words).folder
+    of = parser.parse_args(words)
+    folder = of.folder
     try:
         os.makedirs(folder)
         count = 0
-        for count, (path, content) in enumerate(files(), 1):
+        for count, (path, content) in enumerate(files() if of.drawn is None else random_files(of.drawn), 1):
             os.makedirs(os.path.dirname(f"{folder}/{path}"), exist_ok=True)
             with open(f"{folder}/{path}", "xb") as file:
                 file.write(content)

@@ -2,9 +2,9 @@
 
 import collections
 
-from differences import blanked, differences
+from differences import blanked, differences, is_unseen
 from rewriter import Refused
-from rows import class_of, error_of
+from rows import class_of, class_of_error, error_of
 
 ROUNDS = 8
 
@@ -58,11 +58,11 @@ def rewritten(path, before, after, rows):
         for what, old, new in found:
             rows.add(path, what, old, new, f"differs: {what}")
     elif "package" in before:
-        error = error_of(after)
-        rows.add(path, "refusal after", "read", error, f"read by Cabal, rewritten to a wrong file: {class_of(error)}")
+        rows.add(path, "refusal after", "read", error_of(after), f"read by Cabal, rewritten to a wrong file: {class_of_error(after)}")
+    elif "package" in after and is_unseen(before):
+        rows.note("refused by Cabal for a field that planning doesn't see")
     elif "package" in after:
-        error = error_of(before)
-        rows.add(path, "refusal", error, "read", f"refused by Cabal, rewritten to a readable file: {class_of(error)}")
+        rows.add(path, "refusal", error_of(before), "read", f"refused by Cabal, rewritten to a readable file: {class_of_error(before)}")
     else:
         rows.note("refused by Cabal, before and after")
 

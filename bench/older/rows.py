@@ -26,6 +26,11 @@ def error_of(parsed):
     return f"line {line}: {' '.join(text.split())}"
 
 
+def class_of_error(parsed):
+    """Returns the class of the first error of what Cabal reads."""
+    return "its layout" if "misread" in parsed else class_of(error_of(parsed).partition(": ")[2])
+
+
 class Rows:
     """The rows that were printed, their counts by cause, and the counts of what is alike."""
 
@@ -47,4 +52,4 @@ class Rows:
                 print(f"  {count:>6} {told(cause)}")
 
 
-__all__ = ["Rows", "class_of", "error_of", "told"]
+__all__ = ["Rows", "class_of", "class_of_error", "error_of", "told"]
