@@ -29,9 +29,10 @@ def rewritten(program, contents):
     paths, found = list(contents), {}
     for at in range(0, len(paths), BATCH):
         ran = subprocess.run([program, *paths[at : at + BATCH]], stdout=subprocess.PIPE)
-        found.update(unframed(ran.stdout))
-    if list(found) != paths:
-        raise BadOutput(f"{program} answers for {len(found)} of {len(paths)} files")
+        answers = dict(unframed(ran.stdout))
+        if list(answers) != paths[at : at + BATCH]:
+            raise BadOutput(f"{program} ends with {ran.returncode}, and answers for {len(answers)} of {len(paths[at : at + BATCH])} files")
+        found.update(answers)
     return found
 
 
