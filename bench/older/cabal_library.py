@@ -17,7 +17,8 @@ class Cabal:
     def __init__(self, room):
         self.room, self.program, self.count = room, f"{room}/parsed", 0
         try:
-            made = subprocess.run(["ghc", "-O0", "-v0", "-outputdir", f"{room}/made", "-o", self.program, SOURCE], stdout=subprocess.PIPE, stderr=subprocess.STDOUT, text=True)
+            words = ["ghc", "-O0", "-v0", "-outputdir", f"{room}/made", "-o", self.program, SOURCE]
+            made = subprocess.run(words, stdout=subprocess.PIPE, stderr=subprocess.STDOUT, text=True)
         except OSError as error:
             raise Missing(f"ghc can't be run: {error}") from error
         if made.returncode:

@@ -10,7 +10,10 @@ SEEN = {"name", "version", "cabal-version", "build-type", "build-depends", "setu
 }  # fmt: skip
 READ = {"2.4": "2.4", "3.0": "3.0", "3.4": "3.4"}
 # What cabal-install 3.4 adds to the setup script of a package with an older header, and the version from which it has Cabal at most.
-LEGACY = set("array base binary bytestring containers deepseq directory filepath pretty process time transformers unix ghc-prim template-haskell".split())
+LEGACY = set(
+    "array base binary bytestring containers deepseq directory filepath pretty process time transformers unix"
+    " ghc-prim template-haskell".split()
+)
 ENDS = "<1.25"
 
 

@@ -63,8 +63,9 @@ class Draw:
         for _ in range(self.chance.randrange(3)):
             if self.is_rare(40) and depth:
                 found.append(f"{self.one(INNER[:4])} {{ {self.inline(depth - 1)} }}")
-            else:
-                found.append(f"{self.one(FIELDS)}: {{ {self.one(VALUES[:6])} }}" if self.is_rare(50) else f"{self.one(FIELDS)}: {self.one(VALUES[:6])}")
+                continue
+            name, value = self.one(FIELDS), self.one(VALUES[:6])
+            found.append(f"{name}: {{ {value} }}" if self.is_rare(50) else f"{name}: {value}")
         return " ".join(found)
 
     def items(self, indent, depth):

@@ -1,12 +1,11 @@
-"""Random packages, by number. In: a number. Out: the bytes of a `.cabal` file that says what planning sees in many ways, most of which Cabal reads."""
+"""Random packages, by number. In: a number. Out: the bytes of a `.cabal` file that says what planning sees in many ways.
+
+Cabal reads most of them."""
 
 import random
 
-HEADERS = (
-    ["", "cabal-version: >=1.2\n", "cabal-version: >= 1.6\n", "cabal-version: >=1.8\n", "cabal-version: >=1.10\n", "cabal-version: >= 1.10 && < 3\n", "cabal-version: 1.12\n"]
-    + ["cabal-version: >=1.18\n", "cabal-version: 1.20\n", "cabal-version: 1.22\n", "cabal-version: >=1.24\n", "cabal-version: 2.0\n", "cabal-version: 2.2\n"]
-    + ["cabal-version: 2.4\n", "cabal-version: 3.0\n", "cabal-version: 3.4\n"]
-)
+SAID = [">=1.2", ">= 1.6", ">=1.8", ">=1.10", ">= 1.10 && < 3", "1.12", ">=1.18", "1.20", "1.22", ">=1.24", "2.0", "2.2", "2.4", "3.0", "3.4"]
+HEADERS = ["", *(f"cabal-version: {it}\n" for it in SAID)]
 TYPES = ["build-type: Simple\n"] * 6 + ["", "build-type: Custom\n", "build-type: Configure\n", "build-type:\n", "build-type: Default\n"]
 RANGES = ["", "", " >= 1", " ==1.2.*", " >=1 && <3", " -any", " == 1 || == 2", " (>= 1)", " >= 1-x"]
 LATER = [" ^>= 1.2", " -none", " == { 1, 2 }"]
