@@ -6,7 +6,7 @@ import sys
 sys.path.insert(0, f"{os.path.dirname(os.path.realpath(__file__))}/../../bin/build")
 
 import cases
-from rewriter import Refused
+from rewriter import Refused, rewritten
 
 
 class BadCases(Exception):
@@ -39,4 +39,27 @@ def wanted(path):
     return files, answers
 
 
-__all__ = ["BadCases", "wanted"]
+def told(answer):
+    """Returns the text of an answer, by which two answers are compared."""
+    return f"refused: {answer.cause}, line {answer.line}" if isinstance(answer, Refused) else answer.decode("utf-8", "replace")
+
+
+def differing(wanted_text, text):
+    """Returns the first lines in which two texts differ."""
+    sides = [it.split("\n") for it in (wanted_text, text)]
+    at = next((at for at, pair in enumerate(zip(*sides)) if pair[0] != pair[1]), min(map(len, sides)))
+    return tuple("\n".join(it[at : at + 3]) for it in sides)
+
+
+def compare(program, path, rows):
+    """Compares the answers of a rewriter with those that the cases want."""
+    files, answers = wanted(path)
+    for key, answer in rewritten(program, files).items():
+        texts = told(answers[key]), told(answer)
+        if texts[0] == texts[1]:
+            rows.note("as the case wants it")
+        else:
+            rows.add(key, "answer", *differing(*texts), key.partition(": ")[2])
+
+
+__all__ = ["BadCases", "compare", "wanted"]
