@@ -4,6 +4,8 @@ import json
 import os
 import subprocess
 
+from tool import files
+
 SOURCE = f"{os.path.dirname(os.path.realpath(__file__))}/Parsed.hs"
 
 
@@ -27,11 +29,9 @@ class Cabal:
     def parsed(self, contents):
         """Returns what Cabal reads of each content, by the same keys."""
         self.count += 1
-        room, keys = f"{self.room}/{self.count}", list(contents)
-        os.mkdir(room)
+        room, keys = files.made_room(f"{self.room}/{self.count}"), list(contents)
         for number, key in enumerate(keys):
-            with open(f"{room}/{number}", "wb") as file:
-                file.write(contents[key])
+            room.write(str(number), contents[key])
         paths = "".join(f"{room}/{number}\n" for number in range(len(keys)))
         ran = subprocess.run([self.program], input=paths.encode(), stdout=subprocess.PIPE, check=True)
         found = [json.loads(line) for line in ran.stdout.decode().split("\n")[:-1]]

@@ -1,12 +1,10 @@
-"""Cases of the rewriter, in the notation of `bin/build/cases.py`. In: a text of cases. Out: the files, and the answers that the cases want."""
+"""Cases of the rewriter, in the notation of `bin/tool/cases.py`. In: a text of cases. Out: the files, and the answers that the cases want."""
 
 import os
-import sys
 
-sys.path.insert(0, f"{os.path.dirname(os.path.realpath(__file__))}/../../bin/build")
 
-import cases
-from rewriter import Refused, rewritten
+from tool import cases
+from older.rewriter import Refused, rewritten
 
 
 class BadCases(Exception):

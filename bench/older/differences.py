@@ -2,7 +2,7 @@
 
 import re
 
-from tokens import flat
+from older.tokens import flat
 
 # The fields that planning reads, and the sections with them. An error in any other field is none for the planner.
 SEEN = {"name", "version", "cabal-version", "build-type", "build-depends", "setup-depends", "build-tool-depends", "build-tools", "buildable"} | {

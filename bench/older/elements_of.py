@@ -3,11 +3,11 @@
 import json
 import subprocess
 
-import older
-from elements import Misread, Section, elements
-from rewriter import BadOutput
-from rows import class_of, error_of
-from tokens import flat, plain
+from tool.folder import older
+from tool.elements import Misread, Section, elements
+from older.rewriter import BadOutput
+from older.rows import class_of, error_of
+from older.tokens import flat, plain
 
 PARTS = ("field", "section", "values", "args", "line")
 

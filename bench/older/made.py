@@ -1,25 +1,14 @@
-#!/usr/bin/env python3
-"""Makes small `.cabal` files by rule: each form of a file under each header.
+"""Small `.cabal` files by rule. Out: the path and the bytes of each form of `made_rules.py` and `made_layouts.py` under each
+header, and of the files of `made_headers.py`, which have their own; or of random layouts and packages."""
 
-    bench/older/made.py [--drawn COUNT] FOLDER
-
-It writes FOLDER/FORM/HEADER.cabal: each form of `made_rules.py` and `made_layouts.py` under each header, and the files of `made_headers.py`, which
-have their own. With --drawn it writes that many random layouts and packages instead. It needs a folder that doesn't exist yet. Ends with 0; 64 on
-other words, and 70 where a file can't be written."""
-
-import argparse
-import os
 import re
-import sys
 
-sys.dont_write_bytecode = True
-
-from drawn import drawn
-from drawn_packages import drawn_package
-from made_headers import PLACED, PLACES_FOR, PLAIN, SAID
-from made_layouts import BYTES, LAYOUTS
-from made_parts import LIBRARY
-from made_rules import RULES
+from older.drawn import drawn
+from older.drawn_packages import drawn_package
+from older.made_headers import PLACED, PLACES_FOR, PLAIN, SAID
+from older.made_layouts import BYTES, LAYOUTS
+from older.made_parts import LIBRARY
+from older.made_rules import RULES
 
 # The headers that each form gets: none, a least version, and a version alone.
 LEAST = ("1.0", "1.2", "1.4", "1.6", "1.8", "1.10", "1.12", "1.18", "1.20", "1.22", "1.24", "2.0")
@@ -61,32 +50,3 @@ def random_files(count):
     for number in range(count):
         yield f"layout-{number // 100:04}/{number:06}.cabal", drawn(number)
         yield f"package-{number // 100:04}/{number:06}.cabal", drawn_package(number)
-
-
-class Words(argparse.ArgumentParser):
-    def error(self, message):
-        self.exit(64, f"made.py: {message}; --help lists the words\n")
-
-
-def main(words):
-    parser = Words(prog="made.py", usage="bench/older/made.py [--drawn COUNT] FOLDER", allow_abbrev=False)
-    parser.add_argument("--drawn", metavar="COUNT", type=int, help="that many random layouts and packages instead")
-    parser.add_argument("folder", metavar="FOLDER", help="a folder that doesn't exist yet")
-    of = parser.parse_args(words)
-    folder = of.folder
-    try:
-        os.makedirs(folder)
-        count = 0
-        for count, (path, content) in enumerate(files() if of.drawn is None else random_files(of.drawn), 1):
-            os.makedirs(os.path.dirname(f"{folder}/{path}"), exist_ok=True)
-            with open(f"{folder}/{path}", "xb") as file:
-                file.write(content)
-    except OSError as error:
-        print(f"made.py: {error}", file=sys.stderr)
-        return 70
-    print(f"{count} files")
-    return 0
-
-
-if __name__ == "__main__":
-    sys.exit(main(sys.argv[1:]))

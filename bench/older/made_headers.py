@@ -1,6 +1,6 @@
 """Files whose header is the matter: each has its own, in one of many places."""
 
-from made_parts import LIBRARY, TYPED
+from older.made_parts import LIBRARY, TYPED
 
 PLAIN = TYPED + LIBRARY
 SAID = [

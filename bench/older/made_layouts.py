@@ -1,6 +1,6 @@
 """Layouts of small `.cabal` files, by form: the text behind the header."""
 
-from made_parts import FLAG, LIBRARY, MAIN, TYPED, library
+from older.made_parts import FLAG, LIBRARY, MAIN, TYPED, library
 
 BRACED = "library {\n  build-depends: base\n}\n"
 

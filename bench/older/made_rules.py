@@ -1,6 +1,6 @@
 """What small packages say, by form: the text behind the header."""
 
-from made_parts import CUSTOM, FLAG, LIBRARY, MAIN, NAMED, OWN, SETUP, TYPED, depends, flagged, library, program, tools
+from older.made_parts import CUSTOM, FLAG, LIBRARY, MAIN, NAMED, OWN, SETUP, TYPED, depends, flagged, library, program, tools
 
 # Names of executables by a label.
 NAMES = {

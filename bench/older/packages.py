@@ -2,9 +2,9 @@
 
 import collections
 
-from differences import blanked, differences, is_unseen
-from rewriter import Refused
-from rows import class_of, class_of_error, error_of
+from older.differences import blanked, differences, is_unseen
+from older.rewriter import Refused
+from older.rows import class_of, class_of_error, error_of
 
 ROUNDS = 8
 

@@ -3,12 +3,9 @@
 import os
 import re
 import subprocess
-import sys
-import tempfile
 
-sys.path.insert(0, f"{os.path.dirname(os.path.realpath(__file__))}/../../bin/folder")
-
-import older
+from tool import files as own_files
+from tool.folder import older
 
 LIST = "list"
 REFUSED = re.compile(r"refused (.*?)(?::(\d+))? ([A-Za-z0-9]+)(?: .*)?")
@@ -32,10 +29,9 @@ def rewritten(program, contents):
     names = {path: f"{number}.cabal" for number, path in enumerate(contents)}
     files = {names[path]: content for path, content in contents.items()}
     files[LIST] = "".join(f"{it}\n" for it in names.values()).encode()
-    with tempfile.TemporaryDirectory(prefix="older-headers-") as room:
+    with own_files.new_room("older-headers-") as room:
         for name, content in files.items():
-            with open(f"{room}/{name}", "wb") as file:
-                file.write(content)
+            room.write(name, content)
         ran = subprocess.run([os.path.abspath(program), LIST], cwd=room, stdout=subprocess.PIPE)
     answers = dict(unframed(ran.stdout))
     if list(answers) != list(names.values()):

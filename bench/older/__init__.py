@@ -1,0 +1,1 @@
+"""Older headers, as Cabal reads them and as a rewriter puts them."""
