@@ -40,7 +40,13 @@ class Names(Project):
         self.assertNotIn("cabal.project.local", out)
 
     def test_a_version_that_gives_another_plan(self):
-        out = self.says(0, "why", ["text 1.2 can be chosen", "  text: 2.0 source becomes 1.2 source", "the present one is the first by preference"], COMPILER, "text-1.2")
+        out = self.says(
+            0,
+            "why",
+            ["text 1.2 can be chosen", "  text: 2.0 source becomes 1.2 source", "the present one is the first by preference"],
+            COMPILER,
+            "text-1.2",
+        )
         self.assertEqual(1, out.count("becomes"))
         self.says(0, "why", ["neither needs to be the first by preference"], COMPILER, "text-1.2", "--count-conflicts")
         self.says(0, "why", ["split isn't in the plan, also where only 0.2.3 is allowed"], COMPILER, "split-0.2.3")
@@ -104,7 +110,7 @@ class Conflicts(Project):
 
     def test_without_trying_changes(self):
         self.change("main.cabal", "text,", "text >=3,")
-        self.assertNotIn("help:", self.says(1, "why", [PROVED], COMPILER, "--no-help"))
+        self.assertNotIn("help:", self.says(1, "why", [PROVED], COMPILER, "--no-changes"))
 
     def test_tests_that_are_asked_for(self):
         self.put("main.cabal", MAIN + "test-suite spec\n  build-depends: hspec\n")
@@ -325,7 +331,7 @@ class Strangers(Project):
             (["--json"], "unrecognized"),
         ):
             self.says(64, "why", ["cabal-plan why: ", told], *words)
-        self.says(0, "why", ["NAME[-VERSION]", "--no-help"], "--help")
+        self.says(0, "why", ["NAME[-VERSION]", "--no-changes"], "--help")
 
     def test_closed_streams(self):
         self.change("main.cabal", "text,", "text >=3,")
@@ -352,6 +358,17 @@ class Strangers(Project):
         )
         ran = self.run_script([f"{TOP}/bin/cabal-plan", "why", f"--program={program}", COMPILER], self.p, self.environment(TMPDIR=rooms))
         self.assertEqual((130, []), (ran.returncode, os.listdir(rooms)), ran.err)
+
+    def test_long_lines(self):
+        for old, new in (
+            ("text,", f"text {' || '.join(f'=={it}' for it in range(3, 20000))},"),
+            ("text,", f"text =>{'1' * 100000},"),
+            ("name: main", f"name: main{'x' * 100000}"),
+        ):
+            self.put("main.cabal", MAIN.replace(old, new))
+            status, out, _ = self.tool("why", COMPILER)
+            self.assertIn(status, (0, 1, 3))
+            self.assertLess(max(map(len, out.splitlines())), 1010)
 
     def test_large_files(self):
         begun = time.monotonic()

@@ -16,7 +16,7 @@ TEXT = """Without a name it explains why there is no plan, or what a refusal mea
 from local packages to it. With a name and a version that isn't chosen it plans again with that version, and prints the
 reason against it, or what would change.
 
-Each line begins with the place that it was read from. What is proved, and what is only read off files, stands at the end.
+Each reason names the place that it was read from. What is proved, and what is only read off files, stands at the end.
 A line `help:` names a change which was tried in a copy of the project's small files, and gives a plan there.
 
 The status is that of `cabal-plan plan`: 0 a plan, 1 no plan, 2 gave up, 3 refused; 1 also where the name isn't in the
@@ -27,7 +27,7 @@ def words_of(words):
     """Returns the options."""
     parser = Words("why", description=TEXT)
     parser.add_argument("name", metavar="NAME[-VERSION]", nargs="?", help="a package, with or without a version")
-    parser.add_argument("--no-help", action="store_true", help="tries no changes, which takes a plan for each")
+    parser.add_argument("--no-changes", action="store_true", help="looks for no changes that would help, each of which takes a plan")
     parser.add_planning()
     return parser.parse_args(words)
 
@@ -57,7 +57,7 @@ def main(words):
         tell(gave_up(answer))
     elif answer.status == NO_PLAN:
         tell([f"there is no plan, so {of.name} isn't in one; the reason for that:"] if of.name else [])
-        tell(conflict.lines(folder, planner, answer, not of.no_help))
+        tell(conflict.lines(folder, planner, answer, not of.no_changes))
     elif of.name:
         return ways_or_other(of.name, folder, planner, answer)
     else:

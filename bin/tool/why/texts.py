@@ -8,7 +8,7 @@ import stat
 from tool.elements import Misread, elements
 from tool.refusal import escaped
 
-LARGEST = 1_048_576
+LARGEST, WIDEST = 1_048_576, 1000
 OPEN = os.O_RDONLY | os.O_NONBLOCK | os.O_CLOEXEC
 
 
@@ -70,6 +70,7 @@ def some(of, most=6):
 
 
 def tell(lines):
-    """Prints lines. Nothing from a file moves the cursor or begins a line of its own."""
+    """Prints lines, cut where they are long. Nothing from a file moves the cursor or begins a line of its own."""
     for line in lines:
-        print(escaped(line))
+        told = escaped(line[: WIDEST + 1])
+        print(told if len(told) <= WIDEST else f"{told[:WIDEST]}..")
