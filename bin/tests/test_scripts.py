@@ -19,6 +19,11 @@ def scripts():
     return [it for it in found if not it.endswith(".py") and it not in LEFT_OUT]
 
 
+def has_room(folder, name):
+    """Returns whether `bench/reading`, which writes files for seconds before it runs anything, has its room."""
+    return name == "bench/reading" and any(it.startswith("reading-") for it in os.listdir(folder))
+
+
 class Scripts(Room):
     """Each script, in an empty folder of a user with modules of names as Python's own."""
 
@@ -79,7 +84,7 @@ class Scripts(Room):
         how = {"stdin": subprocess.DEVNULL, "stdout": subprocess.DEVNULL, "stderr": subprocess.PIPE, "cwd": self.at, "env": of}
         with subprocess.Popen([f"{TOP}/{name}", *words], **how) as ran:
             until = time.monotonic() + 20
-            while time.monotonic() < until and ran.poll() is None and not os.path.exists(began) and not (len(os.listdir(of["TMPDIR"])) > 1 and "reading" in name):
+            while time.monotonic() < until and ran.poll() is None and not os.path.exists(began) and not has_room(of["TMPDIR"], name):
                 time.sleep(0.02)
             ran.send_signal(number)
             told = ran.communicate(timeout=20)[1].decode()
