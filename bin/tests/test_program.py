@@ -83,7 +83,7 @@ class Program(Room):
 
     def test_changed_sources_are_built(self):
         self.write("top/crates/cabal_plan/src/main.rt", "fn main() { }\n")
-        self.is_failure(self.plan("plan"), "could not be built")
+        self.is_failure(self.plan("plan"), "rt isn't found")
 
     def test_a_cache_that_can_not_be_written(self):
         self.write("top/crates/cabal_plan/src/main.rt", "fn main() { }\n")

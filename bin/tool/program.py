@@ -121,8 +121,7 @@ def built_program():
         return checked(RELEASE)
     if not OUT.startswith("/"):
         raise Refusal("there is no home folder, and nowhere to build the program: set HOME, or XDG_CACHE_HOME")
-    from tool.steps import Build, built
+    from tool.build import build
 
-    if not built(OUT, program, Build(TOP, f"{OUT}/work", crates), paths, sum_of):
-        raise Refusal("the program could not be built")
+    build(program, crates, paths)
     return checked(program)
