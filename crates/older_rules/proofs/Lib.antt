@@ -1,0 +1,2 @@
+mod ToolBytes
+mod BodySteps
