@@ -1,2 +1,4 @@
 mod ToolBytes
 mod BodySteps
+mod FaultSteps
+mod TopSteps

@@ -3,3 +3,9 @@ pub mod Items
 pub mod Headers
 pub mod Tools
 pub mod Bodies
+pub mod Names
+pub mod Flat
+pub mod Refused
+pub mod Heads
+pub mod Tops
+pub mod Modern

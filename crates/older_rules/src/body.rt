@@ -159,7 +159,7 @@ fn rewrite(
     }
 }
 
-fn push_section(
+pub fn push_section(
     line: u32,
     name: &Text,
     args: &Text,
@@ -218,7 +218,7 @@ pub fn push_copy(
     out.push(Element::Field { line, name, values })
 }
 
-fn copied(alloc: Global, texts: &[Text]) -> Result<List<Text>, NoMemory>
+pub fn copied(alloc: Global, texts: &[Text]) -> Result<List<Text>, NoMemory>
     ensures { IfOk result (λ copied. copied ≡ texts.now) }
 {
     let mut copies = List::new(alloc);

@@ -5,9 +5,16 @@
 mod body;
 mod change;
 mod edition;
+mod flat;
 mod header;
+mod heads;
 mod item;
+mod modern;
+mod names;
+mod refused;
 mod tools;
+mod tops;
 
 pub use change::Change;
 pub use edition::Edition;
+pub use modern::{Modern, modern_elements};
