@@ -60,11 +60,14 @@ abbrev pub setup_fault : Edition → Bool → ℕ → Option At
 setup_fault edition lacks line =
     if lacks && not (before edition V1_24) && before edition V2_4 then Some (record { line = line; cause = MissingField }) else None
 
+abbrev pub setup_items : Header → List Element
+setup_items header = Field header.line (codes "setup-depends") (setup_depends header.edition ∷ []) ∷ []
+
+abbrev pub setup_section : Header → List Element
+setup_section header = Section header.line (codes "custom-setup") [] (setup_items header) ∷ []
+
 abbrev pub setup_said : Header → Bool → List Element
-setup_said header lacks =
-    if is_implied header.edition lacks
-    then Section header.line (codes "custom-setup") [] (Field header.line (codes "setup-depends") (setup_depends header.edition ∷ []) ∷ []) ∷ []
-    else []
+setup_said header lacks = if is_implied header.edition lacks then setup_section header else []
 
 abbrev pub setup_told : Header → Bool → List Change
 setup_told header lacks = if is_implied header.edition lacks then change.Setup ∷ [] else []

@@ -258,3 +258,17 @@ pub fn push_value(
     values.push(value)?;
     out.push(Element::Field { line, name, values })
 }
+
+/// Pushes a field with one value.
+pub fn push_word(
+    alloc: Global,
+    line: u32,
+    name: &str,
+    value: &str,
+    out: &mut List<Element>,
+) -> Result<(), NoMemory>
+    ensures { OnOk result (out.new ≡ out.old ++ Field line name.now (value.now ∷ []) ∷ []) }
+{
+    let value = Text::from_str(alloc, value)?;
+    push_value(alloc, line, name, value, out)
+}

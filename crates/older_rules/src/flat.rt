@@ -200,7 +200,7 @@ fn front_len(items: &[Element]) -> usize
     items.iter().take_while(|item| !is_executable(item)).count()
 }
 
-fn push_section(
+pub fn push_section(
     alloc: Global,
     line: u32,
     name: &str,

@@ -4,7 +4,7 @@ ghost use Rattle.std.specs.Prelude.{◌≡◌, ◌++◌, flat_map, IfOk, OnOk};
 ghost use Rattle.std.specs.List.{list_any};
 ghost use Rattle.older_rules.specs.Heads.{is_default_value, type_rule, head_rule, head_kept, head_told, is_custom_text, is_custom, is_header, is_wanted, is_single, is_headed, header_said, header_told, type_said, type_told, lacks_type, type_line};
 
-use crate::body::{push_copy, push_value};
+use crate::body::{push_copy, push_word};
 use crate::change::Change;
 use crate::edition::Edition;
 use crate::header::Header;
@@ -67,8 +67,7 @@ fn push_head(
                 HeadRule::Header => Ok(()),
                 HeadRule::Custom => {
                     changes.push(Change::BuildType)?;
-                    let value = Text::from_str(alloc, "Custom")?;
-                    push_value(alloc, *line, "build-type", value, out)
+                    push_word(alloc, *line, "build-type", "Custom", out)
                 }
                 HeadRule::Kept => push_copy(alloc, *line, name, values, out),
             }
@@ -144,8 +143,7 @@ pub fn push_type(
         return Ok(());
     }
     changes.push(Change::BuildType)?;
-    let value = Text::from_str(alloc, "Custom")?;
-    push_value(alloc, header.line, "build-type", value, out)
+    push_word(alloc, header.line, "build-type", "Custom", out)
 }
 
 fn is_single(values: &[Text], wanted: &str) -> bool
@@ -205,6 +203,6 @@ pub fn push_header(
     ensures changes { OnOk result (changes.new ≡ changes.old ++ header_told header heads.now) }
 {
     tell_header(header, heads, changes)?;
-    let value = Text::from_str(alloc, header.edition.header_text())?;
-    push_value(alloc, header.line, "cabal-version", value, out)
+    let value = header.edition.header_text();
+    push_word(alloc, header.line, "cabal-version", value, out)
 }

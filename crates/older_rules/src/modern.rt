@@ -1,15 +1,14 @@
 // A file under a cabal-version that is read.
 
-ghost use Rattle.std.specs.Prelude.{◌≡◌, ◌++◌, ◌∷◌, [], codes, IfOk, IfErr, OnOk};
+ghost use Rattle.std.specs.Prelude.{◌≡◌, ◌++◌, IfOk, IfErr, OnOk};
 ghost use Rattle.std.specs.declared.result.Result.TheVariants.{Ok, Err};
 ghost use Rattle.plan_types.specs.Refusal.{RefusesAt};
-ghost use Rattle.plan_types.specs.declared.element.Element.TheVariants.{Section};
-ghost use Rattle.older_rules.specs.Modern.{owner_of, lacks_setup, setup_fault, is_implied, setup_said, setup_told, sections, sections_told, all_items, all_changes, fault_of, file, sectioned_told, IsFile, IsModern};
+ghost use Rattle.older_rules.specs.Modern.{owner_of, lacks_setup, setup_fault, is_implied, setup_items, setup_section, setup_said, setup_told, sections, sections_told, all_items, all_changes, fault_of, file, sectioned_told, IsFile, IsModern};
 
-use crate::body::push_value;
+use crate::body::push_word;
 use crate::change::Change;
 use crate::edition::Edition;
-use crate::flat::{all_fields, any_moves, flat};
+use crate::flat::{all_fields, any_moves, flat, push_section};
 use crate::header::{Header, header_of};
 use crate::heads::{is_custom, push_header, push_heads, push_type, type_line};
 use crate::item::{last_named, leading, text_of};
@@ -84,27 +83,27 @@ fn push_setup(
         return Ok(());
     }
     changes.push(Change::Setup)?;
-    let mut items = List::new(alloc);
-    let value = Text::from_str(alloc, header.edition.setup_depends())?;
-    push_value(alloc, header.line, "setup-depends", value, &mut items)?;
-    push_setup_section(alloc, header.line, items, out)
+    push_setup_section(alloc, header, out)
 }
 
 fn push_setup_section(
     alloc: Global,
-    line: u32,
-    items: List<Element>,
+    header: Header,
     out: &mut List<Element>,
 ) -> Result<(), NoMemory>
-    ensures { OnOk result (out.new ≡ out.old ++ Section line (codes "custom-setup") [] items ∷ []) }
+    ensures { OnOk result (out.new ≡ out.old ++ setup_section header) }
 {
-    let name = Text::from_str(alloc, "custom-setup")?;
-    out.push(Element::Section {
-        line,
-        name,
-        args: Text::new(alloc),
-        items,
-    })
+    let items = setup_items(alloc, header)?;
+    push_section(alloc, header.line, "custom-setup", Text::new(alloc), items, out)
+}
+
+fn setup_items(alloc: Global, header: Header) -> Result<List<Element>, NoMemory>
+    ensures { IfOk result (λ items. items ≡ setup_items header) }
+{
+    let mut items = List::new(alloc);
+    let value = header.edition.setup_depends();
+    push_word(alloc, header.line, "setup-depends", value, &mut items)?;
+    Ok(items)
 }
 
 /// The sections of a file, rewritten.
