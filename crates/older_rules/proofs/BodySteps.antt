@@ -24,13 +24,13 @@ module _ (edition : Edition) (tools : List Tool) (chained : Bool) where
       ∙ ap (λ i. old ++ kept edition tools chained (in_front i behind)) (sym is)
 
   pub field_tells : {item : Element} (line : ℕ) (name : List ℕ) (values : List (List ℕ)) {rule : FieldRule} {after : Bool} (old new : List Change) →
-      item ≡ Field line name values → rule ≡ field_rule edition name → after ≡ chained_after rule chained → new ≡ old ++ field_told rule line →
+      item ≡ Field line name values → rule ≡ field_rule edition name → after ≡ chained_after rule chained → new ≡ old ++ field_told tools rule line values →
       Tells edition tools item chained after old new
   unfolding told
   field_tells line name values {rule = rule} old new is rule-is after-is new-is behind =
       ap (λ a. new ++ told edition tools a behind) after-is
-      ∙ added old (field_told rule line) (told edition tools (chained_after rule chained) behind) new-is
-      ∙ ap (λ r. old ++ (field_told r line ++ told edition tools (chained_after r chained) behind)) rule-is
+      ∙ added old (field_told tools rule line values) (told edition tools (chained_after rule chained) behind) new-is
+      ∙ ap (λ r. old ++ (field_told tools r line values ++ told edition tools (chained_after r chained) behind)) rule-is
       ∙ ap (λ t. old ++ told edition tools chained t) (sym (field_in_front line name values behind))
       ∙ ap (λ i. old ++ told edition tools chained (in_front i behind)) (sym is)
 

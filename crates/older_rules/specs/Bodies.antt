@@ -15,7 +15,7 @@ use Rattle.older_rules.specs.declared.body.FieldRule.TheVariants as rule
 use Rattle.older_rules.specs.declared.body.Place.{Place}
 use Rattle.older_rules.specs.declared.body.Place.TheVariants as place
 use Rattle.older_rules.specs.Editions.{before}
-use Rattle.older_rules.specs.Tools.{tool_texts, commas}
+use Rattle.older_rules.specs.Tools.{tool_texts, tools_told, commas}
 
 -- Before 2.2 Cabal passes over imports. Before 2.4 `build-tools` is read as `build-tool-depends`.
 abbrev pub field_rule : Edition → List ℕ → FieldRule
@@ -58,10 +58,10 @@ field_kept tools rule.Dropped line name values = []
 field_kept tools rule.Tools line name values = tool_field line (tool_texts tools (joined_text values))
 field_kept tools rule.Kept line name values = Field line name values ∷ []
 
-abbrev pub field_told : FieldRule → ℕ → List Change
-field_told rule.Dropped line = change.Dropped line ∷ []
-field_told rule.Tools line = change.Tools line ∷ []
-field_told rule.Kept line = []
+abbrev pub field_told : List Tool → FieldRule → ℕ → List (List ℕ) → List Change
+field_told tools rule.Dropped line values = change.Dropped line ∷ []
+field_told tools rule.Tools line values = change.Tools line ∷ tools_told tools line (joined_text values)
+field_told tools rule.Kept line values = []
 
 abbrev pub section_kept : Place → ℕ → List ℕ → List ℕ → List Element → List Element
 section_kept place.Opens line name args items = Section line name args items ∷ []
@@ -86,7 +86,7 @@ kept edition tools chained (section line name args items behind) =
 unfoldable pub told : Edition → List Tool → Bool → Tree → List Change
 told edition tools chained end = []
 told edition tools chained (field line name values behind) =
-    field_told (field_rule edition name) line ++ told edition tools (chained_after (field_rule edition name) chained) behind
+    field_told tools (field_rule edition name) line values ++ told edition tools (chained_after (field_rule edition name) chained) behind
 told edition tools chained (section line name args items behind) =
     section_told (place_of edition chained name) line (told edition tools false items)
     ++ told edition tools (is_opening (place_of edition chained name)) behind

@@ -4,6 +4,8 @@ use Rattle.std.specs.List.{prefix_len, slice_split}
 use Rattle.plan_types.specs.Bytes.{same_text}
 use Rattle.plan_types.specs.Name.{is_component_byte}
 use Rattle.cabal_lexer.specs.Lines.{trim}
+use Rattle.older_rules.specs.declared.change.Change.{Change}
+use Rattle.older_rules.specs.declared.change.Change.TheVariants.{UnknownTool}
 use Rattle.older_rules.specs.declared.tools.Tool.{Tool}
 
 -- a byte of a tool's name
@@ -52,12 +54,32 @@ abbrev pub some_text : Option (List ℕ) → List (List ℕ)
 some_text None = []
 some_text (Some text) = text ∷ []
 
+abbrev pub unknown_told : ℕ → Option (List ℕ) → List Change
+unknown_told line None = UnknownTool line ∷ []
+unknown_told line (Some text) = []
+
+-- an empty entry is none
+abbrev pub entry_tool : List Tool → List ℕ → List (List ℕ)
+entry_tool own [] = []
+entry_tool own (b ∷ bs) = some_text (depended own (b ∷ bs))
+
+abbrev pub entry_told : List Tool → ℕ → List ℕ → List Change
+entry_told own line [] = []
+entry_told own line (b ∷ bs) = unknown_told line (depended own (b ∷ bs))
+
 abbrev pub tool_of : List Tool → List ℕ → List (List ℕ)
-tool_of own piece = some_text (depended own (trim piece))
+tool_of own piece = entry_tool own (trim piece)
+
+abbrev pub tool_told : List Tool → ℕ → List ℕ → List Change
+tool_told own line piece = entry_told own line (trim piece)
 
 -- the entries for those of a text
 abbrev pub tool_texts : List Tool → List ℕ → List (List ℕ)
 tool_texts own text = flat_map (tool_of own) (slice_split (λ b. b == 44) text)
+
+-- the tools that are left out
+abbrev pub tools_told : List Tool → ℕ → List ℕ → List Change
+tools_told own line text = flat_map (tool_told own line) (slice_split (λ b. b == 44) text)
 
 -- texts joined by commas
 abbrev pub commas : List (List ℕ) → List ℕ

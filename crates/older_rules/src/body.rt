@@ -190,14 +190,14 @@ fn push_field(
     changes: &mut List<Change>,
 ) -> Result<(), NoMemory>
     ensures items { OnOk result (out.new ≡ out.old ++ field_kept tools.now rule line name.now values.now) }
-    ensures changes { OnOk result (changes.new ≡ changes.old ++ field_told rule line) }
+    ensures changes { OnOk result (changes.new ≡ changes.old ++ field_told tools.now rule line values.now) }
 {
     match rule {
         FieldRule::Dropped => changes.push(Change::Dropped { line }),
         FieldRule::Tools => {
             changes.push(Change::Tools { line })?;
             let text = joined_text(alloc, values.as_slice())?;
-            let found = tool_texts(alloc, tools, text.as_str())?;
+            let found = tool_texts(alloc, tools, line, text.as_str(), changes)?;
             push_tools(alloc, line, found, out)
         }
         FieldRule::Kept => push_copy(alloc, line, name, values, out),

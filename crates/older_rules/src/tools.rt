@@ -3,8 +3,9 @@
 ghost use Rattle.std.specs.Prelude.{◌≡◌, ◌++◌, ◌∷◌, ◌≤◌, [], IfOk, OnOk, length, take, drop, map, flat_map, ◌==◌};
 ghost use Rattle.std.specs.List.{prefix_len, slice_split};
 ghost use Rattle.std.specs.Option.{option_copied};
-ghost use Rattle.older_rules.specs.Tools.{is_tool_byte, is_known, known, own_tool, full_name, depended, tool_texts, tool_of, some_text, commas};
+ghost use Rattle.older_rules.specs.Tools.{is_tool_byte, is_known, known, own_tool, full_name, depended, tool_texts, tools_told, tool_of, tool_told, entry_tool, entry_told, commas};
 
+use crate::change::Change;
 use cabal_lexer::trim;
 use entry_text::is_component_byte;
 use plan_types::{List, NoMemory, Text};
@@ -104,11 +105,18 @@ fn joined(mut front: Text, back: &str) -> Result<Text, NoMemory>
 }
 
 /// The entries for those of a text, without tools that Cabal doesn't know.
-pub fn tool_texts(alloc: Global, own: &[Tool], text: &str) -> Result<List<Text>, NoMemory>
-    ensures { IfOk result (λ found. found ≡ tool_texts own.now text.now) }
+pub fn tool_texts(
+    alloc: Global,
+    own: &[Tool],
+    line: u32,
+    text: &str,
+    changes: &mut List<Change>,
+) -> Result<List<Text>, NoMemory>
+    ensures tools { IfOk result (λ found. found ≡ tool_texts own.now text.now) }
+    ensures changes { OnOk result (changes.new ≡ changes.old ++ tools_told own.now line text.now) }
 {
     let pieces = pieces(alloc, text)?;
-    each_depended(alloc, own, pieces.as_slice())
+    each_tool(alloc, own, line, pieces.as_slice(), changes)
 }
 
 fn pieces(alloc: Global, text: &str) -> Result<Vec<&str>, AllocError>
@@ -117,29 +125,41 @@ fn pieces(alloc: Global, text: &str) -> Result<Vec<&str>, AllocError>
     text.split(',').collect(alloc)
 }
 
-fn each_depended(alloc: Global, own: &[Tool], pieces: &[&str]) -> Result<List<Text>, NoMemory>
-    ensures { IfOk result (λ found. found ≡ flat_map (tool_of own.now) (map (λ piece. piece.now) pieces.now)) }
+fn each_tool(
+    alloc: Global,
+    own: &[Tool],
+    line: u32,
+    pieces: &[&str],
+    changes: &mut List<Change>,
+) -> Result<List<Text>, NoMemory>
+    ensures tools { IfOk result (λ found. found ≡ flat_map (tool_of own.now) (map (λ piece. piece.now) pieces.now)) }
+    ensures changes { OnOk result (changes.new ≡ changes.old
+        ++ flat_map (tool_told own.now line) (map (λ piece. piece.now) pieces.now)) }
 {
     let mut found = List::new(alloc);
     for piece in pieces {
-        push_tool(alloc, own, piece, &mut found)?;
+        push_tool(alloc, own, line, trim(piece), &mut found, changes)?;
     }
     Ok(found)
 }
 
-fn push_tool(alloc: Global, own: &[Tool], piece: &str, found: &mut List<Text>) -> Result<(), NoMemory>
-    ensures { OnOk result (found.new ≡ found.old ++ tool_of own.now piece.now) }
+fn push_tool(
+    alloc: Global,
+    own: &[Tool],
+    line: u32,
+    entry: &str,
+    found: &mut List<Text>,
+    changes: &mut List<Change>,
+) -> Result<(), NoMemory>
+    ensures tools { OnOk result (found.new ≡ found.old ++ entry_tool own.now entry.now) }
+    ensures changes { OnOk result (changes.new ≡ changes.old ++ entry_told own.now line entry.now) }
 {
-    let tool = depended(alloc, own, trim(piece))?;
-    push_some(found, tool)
-}
-
-fn push_some(found: &mut List<Text>, text: Option<Text>) -> Result<(), NoMemory>
-    ensures { OnOk result (found.new ≡ found.old ++ some_text text) }
-{
-    match text {
+    if entry.is_empty() {
+        return Ok(());
+    }
+    match depended(alloc, own, entry)? {
         Some(text) => found.push(text),
-        None => Ok(()),
+        None => changes.push(Change::UnknownTool { line }),
     }
 }
 
