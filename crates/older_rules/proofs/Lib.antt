@@ -2,3 +2,4 @@ mod ToolBytes
 mod BodySteps
 mod FaultSteps
 mod TopSteps
+mod OneOutcome

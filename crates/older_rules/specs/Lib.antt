@@ -9,3 +9,4 @@ pub mod Refused
 pub mod Heads
 pub mod Tops
 pub mod Modern
+pub mod Examples

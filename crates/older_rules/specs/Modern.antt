@@ -15,7 +15,7 @@ use Rattle.older_rules.specs.declared.modern.Modern.{Modern}
 use Rattle.older_rules.specs.declared.names.NamePair.{NamePair}
 use Rattle.older_rules.specs.declared.refused.At.{At}
 use Rattle.older_rules.specs.declared.tools.Tool.{Tool}
-use Rattle.older_rules.specs.Editions.{before, setup_depends}
+use Rattle.older_rules.specs.Editions.{before, header_text, setup_depends}
 use Rattle.older_rules.specs.Flat.{flat, moves}
 use Rattle.older_rules.specs.Headers.{IsHeader}
 use Rattle.older_rules.specs.Heads.{head_kept, head_told, header_said, header_told, is_custom, type_line, type_said, type_told}
@@ -120,3 +120,7 @@ sectioned_told items = if list_all is_field items && list_any moves items then c
 -- The elements of a file under a cabal-version that is read, or the refusal of it.
 abbrev pub IsModern : List Element → Result Modern (ℕ × Cause) → Type 0
 IsModern items found = IsFile (sectioned_told items) (sectioned items) found
+
+-- a file whose first element is a cabal-version that is read
+abbrev pub BeginsWithHeader : List Element → Type 0
+BeginsWithHeader items = (line : ℕ) × (edition : Edition) × (rest : List Element) × (items ≡ Field line (codes "cabal-version") (header_text edition ∷ []) ∷ rest)

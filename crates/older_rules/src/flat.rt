@@ -177,7 +177,11 @@ fn push_own_field(alloc: Global, item: &Element, out: &mut List<Element>) -> Res
     }
 }
 
-fn push_own_fields(alloc: Global, items: &[Element], out: &mut List<Element>) -> Result<(), NoMemory>
+fn push_own_fields(
+    alloc: Global,
+    items: &[Element],
+    out: &mut List<Element>,
+) -> Result<(), NoMemory>
     ensures { OnOk result (out.new ≡ out.old ++ flat_map own_field items.now) }
 {
     for item in items {

@@ -169,7 +169,9 @@ fn is_wanted(edition: Edition, item: &Element) -> bool
 fn has_header(items: &[Element]) -> bool
     ensures { result ≡ list_any is_header items.now }
 {
-    items.iter().any(|item| is_field_named(item, "cabal-version"))
+    items
+        .iter()
+        .any(|item| is_field_named(item, "cabal-version"))
 }
 
 fn is_headed(edition: Edition, heads: &[Element]) -> bool
@@ -181,7 +183,11 @@ fn is_headed(edition: Edition, heads: &[Element]) -> bool
     }
 }
 
-fn tell_header(header: Header, heads: &[Element], changes: &mut List<Change>) -> Result<(), NoMemory>
+fn tell_header(
+    header: Header,
+    heads: &[Element],
+    changes: &mut List<Change>,
+) -> Result<(), NoMemory>
     ensures { OnOk result (changes.new ≡ changes.old ++ header_told header heads.now) }
 {
     if is_headed(header.edition, heads) {

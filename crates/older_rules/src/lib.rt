@@ -9,6 +9,7 @@ mod flat;
 mod header;
 mod heads;
 mod item;
+mod laws;
 mod modern;
 mod names;
 mod refused;
@@ -17,4 +18,5 @@ mod tops;
 
 pub use change::Change;
 pub use edition::Edition;
+pub use laws::{header_first, one_outcome};
 pub use modern::{Modern, modern_elements};

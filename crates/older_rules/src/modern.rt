@@ -52,7 +52,10 @@ fn lacks_setup(
 fn setup_fault(header: Header, lacks: bool, line: u32) -> Option<At>
     ensures { result ≡ setup_fault header.edition lacks line }
 {
-    if lacks && !header.edition.is_before(Edition::V1_24) && header.edition.is_before(Edition::V2_4) {
+    if lacks
+        && !header.edition.is_before(Edition::V1_24)
+        && header.edition.is_before(Edition::V2_4)
+    {
         Some(At {
             line,
             cause: Cause::MissingField,
@@ -94,7 +97,14 @@ fn push_setup_section(
     ensures { OnOk result (out.new ≡ out.old ++ setup_section header) }
 {
     let items = setup_items(alloc, header)?;
-    push_section(alloc, header.line, "custom-setup", Text::new(alloc), items, out)
+    push_section(
+        alloc,
+        header.line,
+        "custom-setup",
+        Text::new(alloc),
+        items,
+        out,
+    )
 }
 
 fn setup_items(alloc: Global, header: Header) -> Result<List<Element>, NoMemory>

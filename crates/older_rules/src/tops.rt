@@ -89,7 +89,12 @@ pub fn component_names(alloc: Global, items: &[Element]) -> Result<List<Text>, N
     Ok(names)
 }
 
-fn tool_named(alloc: Global, owner: &Text, names: &[NamePair], args: &Text) -> Result<Tool, NoMemory>
+fn tool_named(
+    alloc: Global,
+    owner: &Text,
+    names: &[NamePair],
+    args: &Text,
+) -> Result<Tool, NoMemory>
     ensures { IfOk result (λ tool. tool ≡ tool_named owner.now names.now args.now) }
 {
     let name = args.copy()?;
@@ -223,7 +228,17 @@ fn push_top_section(
         TopRule::Dropped => changes.push(Change::Dropped { line }),
         TopRule::Component => {
             let inside = rewriting.inside(rewriting.edition);
-            push_component(alloc, rewriting.names, &inside, line, name, args, items, out, changes)
+            push_component(
+                alloc,
+                rewriting.names,
+                &inside,
+                line,
+                name,
+                args,
+                items,
+                out,
+                changes,
+            )
         }
         TopRule::Common => {
             let inside = rewriting.inside(rewriting.edition);
@@ -268,7 +283,17 @@ fn push_top(
             items,
         } => {
             let rule = top_rule(rewriting.edition, name.as_str());
-            push_top_section(alloc, rewriting, rule, *line, name, args, items.as_slice(), out, changes)
+            push_top_section(
+                alloc,
+                rewriting,
+                rule,
+                *line,
+                name,
+                args,
+                items.as_slice(),
+                out,
+                changes,
+            )
         }
     }
 }
