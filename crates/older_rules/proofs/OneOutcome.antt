@@ -12,8 +12,8 @@ use Rattle.older_rules.specs.declared.edition.Edition.{Edition}
 use Rattle.older_rules.specs.declared.header.Header.{Header}
 use Rattle.older_rules.specs.declared.modern.Modern.{Modern}
 use Rattle.older_rules.specs.declared.refused.At.{At}
-use Rattle.older_rules.specs.Headers.{IsHeader, IsHeaderIn, IsRangeOf, IsStatedBy, edition_of, is_first, judged}
-use Rattle.older_rules.specs.Items.{leading, last_named, line_of, text_of}
+use Rattle.older_rules.specs.Headers.{IsHeaderIn, IsRangeOf, IsStatedBy, edition_of, is_first, judged}
+use Rattle.older_rules.specs.Items.{leading, line_of, text_of}
 use Rattle.older_rules.specs.Modern.{BeginsWithHeader, IsFile, IsModern, fault, of_header, rewritten_file, sectioned, sectioned_told, unless_fault}
 
 one_range_of : (text : List ℕ) (r s : Option Range) → IsRangeOf text r → IsRangeOf text s → r ≡ s

@@ -1,12 +1,11 @@
 -- The bytes of names are ASCII.
 use Rattle.std.proofs.Common.{◌≡◌, ℕ, ◌<◌, Bool, true, false, cond, List, [], ◌∷◌, map, lit<, refl, arith}
-use Rattle.std.specs.Prelude.{filter}
 use Rattle.std.specs.Str.{IsAscii}
 use Rattle.std.proofs.lemmas.Bool.Decides.{nat_tests}
 use Rattle.std.proofs.lemmas.Str.Ascii.{IsAscii-nil, IsAscii-cons}
 use Rattle.plan_types.specs.Name.{is_component_byte}
 use Rattle.text_grammar.proofs.Boundaries.{PassesAscii}
-use Rattle.older_rules.specs.Names.{is_quote, plain_byte, plain_bytes}
+use Rattle.older_rules.specs.Names.{plain_byte, plain_bytes}
 use Rattle.older_rules.specs.Tools.{is_tool_byte}
 
 pub is_tool_byte-ascii : PassesAscii is_tool_byte

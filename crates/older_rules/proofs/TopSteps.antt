@@ -2,7 +2,7 @@
 use Rattle.std.proofs.Common.{◌≡◌, ℕ, List, [], ◌∷◌, ◌++◌, sym, ap, ◌∙◌}
 use Rattle.plan_types.specs.declared.element.Element.{Element}
 use Rattle.plan_types.specs.declared.element.Element.TheVariants.{Field, Section}
-use Rattle.cabal_lexer.specs.Tree.{Tree, in_front, tree_of}
+use Rattle.cabal_lexer.specs.Tree.{in_front, tree_of}
 use Rattle.cabal_lexer.proofs.ElementTrees.{field_in_front, section_in_front, added}
 use Rattle.older_rules.specs.declared.change.Change.{Change}
 use Rattle.older_rules.specs.declared.change.Change.TheVariants.{Dropped}

@@ -1,10 +1,10 @@
 -- The definitions on small texts and files.
 use Rattle.std.specs.Prelude.{◌≡◌, [], ◌∷◌, true, false, refl, codes, Some, None}
-use Rattle.plan_types.specs.declared.element.Element.TheVariants.{Field, Section}
+use Rattle.plan_types.specs.declared.element.Element.TheVariants.{Section}
 use Rattle.plan_types.specs.declared.refusal.Cause.TheVariants.{NeedsVersion}
 use Rattle.cabal_lexer.specs.Lines.{trim, trim_start, trim_end, indent}
 use Rattle.cabal_lexer.specs.Tree.{end, field, section}
-use Rattle.older_rules.specs.declared.edition.Edition.TheVariants.{V1_0, V1_10, V1_12, V1_24, V2_0, V2_2, V2_4}
+use Rattle.older_rules.specs.declared.edition.Edition.TheVariants.{V1_10, V1_12, V1_24, V2_0, V2_2, V2_4}
 use Rattle.older_rules.specs.declared.body.Place.TheVariants.{Opens, Closes, Dropped}
 use Rattle.older_rules.specs.declared.change.Change.TheVariants as change
 use Rattle.older_rules.specs.Bodies.{place_of, kept, told}

@@ -1,6 +1,5 @@
 -- The cabal-version of a file. Sources: Cabal 3.4.1, parseGenericPackageDescription' and SpecVersion.
 use Rattle.std.specs.Prelude.{◌≡◌, ℕ, Bool, true, false, ◌||◌, if◌then◌else◌, List, [], ◌∷◌, take, codes, Option, Some, None, Result, Ok, Err}
-use Rattle.std.specs.Option.{option_and_then}
 use Rattle.plan_types.specs.declared.element.Element.{Element}
 use Rattle.plan_types.specs.declared.range.Spec.TheVariants.{V2_4 as modern}
 use Rattle.plan_types.specs.declared.range.Range.{Range}

@@ -1,5 +1,5 @@
 -- The fields before the sections. Sources: Cabal 3.4.1, BuildType, buildType and checkForUndefinedCustomSetup.
-use Rattle.std.specs.Prelude.{ℕ, Bool, true, false, not, ◌&&◌, ◌||◌, if◌then◌else◌, List, [], ◌∷◌, ◌++◌, codes, Option, Some, None, is_none}
+use Rattle.std.specs.Prelude.{ℕ, Bool, false, not, ◌&&◌, ◌||◌, if◌then◌else◌, List, [], ◌∷◌, codes, Option, Some, None, is_none}
 use Rattle.std.specs.List.{list_any}
 use Rattle.plan_types.specs.Bytes.{same_text}
 use Rattle.plan_types.specs.declared.element.Element.{Element, Element-F, fold-Element}

@@ -1,5 +1,5 @@
 -- The names of components. This program reads letters, digits, `-` and `_`; Cabal reads any name.
-use Rattle.std.specs.Prelude.{ℕ, zero, suc, Bool, true, false, not, ◌==◌, if◌then◌else◌, List, [], ◌∷◌, ◌++◌, map, filter, fold, find, length, Option, Some, None}
+use Rattle.std.specs.Prelude.{ℕ, zero, suc, Bool, not, ◌==◌, if◌then◌else◌, List, [], ◌∷◌, ◌++◌, map, filter, fold, find, length, Option, Some, None}
 use Rattle.std.specs.List.{list_all, list_any}
 use Rattle.plan_types.specs.Bytes.{same_text}
 use Rattle.plan_types.specs.Name.{is_component_byte}

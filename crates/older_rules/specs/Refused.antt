@@ -1,6 +1,6 @@
 -- Texts that need a later cabal-version: Cabal refuses them. Sources: Cabal 3.4.1, VersionRange (`^>=` from 2.0 on) and
 -- parsecCommaList (outer commas from 2.2 on). Sets of versions and named libraries are refused under 2.4 too.
-use Rattle.std.specs.Prelude.{ℕ, Bool, true, false, ◌&&◌, ◌||◌, ◌==◌, if◌then◌else◌, List, [], ◌∷◌, length, ◌-◌, slice_index, codes, Option, Some, None}
+use Rattle.std.specs.Prelude.{ℕ, Bool, true, false, ◌&&◌, ◌||◌, ◌==◌, if◌then◌else◌, List, length, ◌-◌, slice_index, codes, Option, Some, None}
 use Rattle.std.specs.List.{list_any}
 use Rattle.plan_types.specs.Bytes.{begins_with, joined_text, same_text}
 use Rattle.plan_types.specs.declared.refusal.Cause.TheVariants.{NeedsVersion}

@@ -13,6 +13,8 @@ mod laws;
 mod modern;
 mod names;
 mod refused;
+#[cfg(test)]
+mod tests;
 mod tools;
 mod tops;
 

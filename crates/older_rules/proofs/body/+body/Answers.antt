@@ -1,4 +1,4 @@
-use Rattle.std.proofs.Common.{◌≡◌, ◌++◌, ◌∷◌, [], false, sym, ap, ◌∙◌, drop, subst, arith}
+use Rattle.std.proofs.Common.{◌≡◌, ◌++◌, ◌∷◌, [], false, sym, ap, ◌∙◌, drop, arith}
 use Rattle.std.proofs.lemmas.List.{append-nil, drop_all}
 use Rattle.plan_types.specs.declared.element.Element.TheVariants.{Section}
 use Rattle.cabal_lexer.specs.Tree.{tree_of}

@@ -2,7 +2,7 @@ use Rattle.std.proofs.Common.{◌≡◌, take, sym, subst, ap, ◌∙◌}
 use Rattle.std.specs.Prelude.{codes}
 use Rattle.std.specs.declared.result.Result.TheVariants.{Err}
 use Rattle.plan_types.proofs.OutcomeLemmas.{told-err}
-use Rattle.older_rules.specs.Headers.{IsHeader, IsHeaderIn, IsStatedBy, judged, is_first}
+use Rattle.older_rules.specs.Headers.{IsHeader, IsHeaderIn, IsStatedBy, judged}
 use Rattle.older_rules.specs.Items.{last_named, line_of}
 use Rattle.older_rules.proofs.header.header_of.Goals as goal
 

@@ -1,4 +1,4 @@
-use Rattle.std.proofs.Common.{◌≡◌, ◌≤◌}
+use Rattle.std.proofs.Common.{◌≡◌}
 use Rattle.plan_types.specs.declared.range.Range.{size-Range}
 use Rattle.older_rules.specs.Headers.{lower}
 use Rattle.older_rules.proofs.header.lower.Given as goal
