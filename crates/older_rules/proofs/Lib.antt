@@ -3,3 +3,4 @@ mod BodySteps
 mod FaultSteps
 mod TopSteps
 mod OneOutcome
+mod AloneSections

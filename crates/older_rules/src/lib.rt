@@ -20,5 +20,5 @@ mod tops;
 
 pub use change::Change;
 pub use edition::Edition;
-pub use laws::{header_first, one_outcome};
+pub use laws::{header_first, one_outcome, sections_alone};
 pub use modern::{Modern, modern_elements};
