@@ -1,0 +1,6 @@
+mod ToolBytes
+mod BodySteps
+mod FaultSteps
+mod TopSteps
+mod OneOutcome
+mod AloneSections

@@ -1,0 +1,97 @@
+-- The sections of a file. Source: Cabal 3.4.1, PackageDescription parser (goSections).
+use Rattle.std.specs.Prelude.{◌≡◌, ℕ, Bool, true, false, if◌then◌else◌, List, [], ◌∷◌, ◌++◌, codes}
+use Rattle.plan_types.specs.Bytes.{same_text}
+use Rattle.plan_types.specs.declared.element.Element.{Element, Element-F, fold-Element}
+use Rattle.plan_types.specs.declared.element.Element.TheOpen.{Field, Section}
+use Rattle.plan_types.specs.declared.element.Element.TheVariants as element
+use Rattle.cabal_lexer.specs.Tree.{Tree, end, field, section, in_front}
+use Rattle.older_rules.specs.declared.edition.Edition.{Edition}
+use Rattle.older_rules.specs.declared.edition.Edition.TheVariants.{V2_2, V3_4}
+use Rattle.older_rules.specs.declared.change.Change.{Change}
+use Rattle.older_rules.specs.declared.change.Change.TheVariants as change
+use Rattle.older_rules.specs.declared.names.NamePair.{NamePair}
+use Rattle.older_rules.specs.declared.tools.Tool.{Tool}
+use Rattle.older_rules.specs.declared.tops.TopRule.{TopRule}
+use Rattle.older_rules.specs.declared.tops.TopRule.TheVariants as rule
+use Rattle.older_rules.specs.Bodies.{kept, told}
+use Rattle.older_rules.specs.Editions.{before}
+use Rattle.older_rules.specs.Names.{is_odd, new_name}
+
+abbrev pub is_component : List ℕ → Bool
+is_component name =
+    if same_text name (codes "library") then true
+    else if same_text name (codes "executable") then true
+    else if same_text name (codes "test-suite") then true
+    else if same_text name (codes "benchmark") then true
+    else if same_text name (codes "foreign-library") then true
+    else false
+
+abbrev pub component_layer : Element-F (List (List ℕ)) → List (List ℕ)
+component_layer (Field line name values) = []
+component_layer (Section line name args items) = if is_component name then args ∷ [] else []
+
+-- the name of a component
+abbrev pub component_name : Element → List (List ℕ)
+component_name = fold-Element (List (List ℕ)) component_layer
+
+-- an executable of a package, under its new name
+abbrev pub tool_named : List ℕ → List NamePair → List ℕ → Tool
+tool_named owner names args = record { name = args; full = owner ++ 58 ∷ new_name names args }
+
+abbrev pub tool_layer : List ℕ → List NamePair → Element-F (List Tool) → List Tool
+tool_layer owner names (Field line name values) = []
+tool_layer owner names (Section line name args items) = if same_text name (codes "executable") then tool_named owner names args ∷ [] else []
+
+abbrev pub executable_tool : List ℕ → List NamePair → Element → List Tool
+executable_tool owner names = fold-Element (List Tool) (tool_layer owner names)
+
+abbrev pub setup_layer : Element-F Bool → Bool
+setup_layer (Field line name values) = false
+setup_layer (Section line name args items) = same_text name (codes "custom-setup")
+
+abbrev pub is_setup : Element → Bool
+is_setup = fold-Element Bool setup_layer
+
+-- before 2.2 Cabal passes over common stanzas
+abbrev pub top_rule : Edition → List ℕ → TopRule
+top_rule edition name =
+    if is_component name then rule.Component
+    else if same_text name (codes "common") then (if before edition V2_2 then rule.Dropped else rule.Common)
+    else rule.Other
+
+abbrev pub name_told : ℕ → List ℕ → List Change
+name_told line args = if is_odd args then change.Name line ∷ [] else []
+
+-- what becomes of a section; other sections than components and stanzas stay as they are
+abbrev pub top_kept : Edition → List Tool → List NamePair → TopRule → ℕ → List ℕ → List ℕ → Tree → List Element
+top_kept edition tools names rule.Dropped line name args items = []
+top_kept edition tools names rule.Component line name args items = element.Section line name (new_name names args) (kept edition tools false items) ∷ []
+top_kept edition tools names rule.Common line name args items = element.Section line name args (kept edition tools false items) ∷ []
+top_kept edition tools names rule.Other line name args items = element.Section line name args (kept V3_4 tools false items) ∷ []
+
+abbrev pub top_told : Edition → List Tool → TopRule → ℕ → List ℕ → Tree → List Change
+top_told edition tools rule.Dropped line args items = change.Dropped line ∷ []
+top_told edition tools rule.Component line args items = name_told line args ++ told edition tools false items
+top_told edition tools rule.Common line args items = told edition tools false items
+top_told edition tools rule.Other line args items = told V3_4 tools false items
+
+-- the sections of a file, rewritten; Cabal passes over fields among them
+unfoldable pub tops : Edition → List Tool → List NamePair → Tree → List Element
+tops edition tools names end = []
+tops edition tools names (field line name values behind) = tops edition tools names behind
+tops edition tools names (section line name args items behind) =
+    top_kept edition tools names (top_rule edition name) line name args items ++ tops edition tools names behind
+
+-- the changes to them
+unfoldable pub tops_told : Edition → List Tool → Tree → List Change
+tops_told edition tools end = []
+tops_told edition tools (field line name values behind) = change.Dropped line ∷ tops_told edition tools behind
+tops_told edition tools (section line name args items behind) =
+    top_told edition tools (top_rule edition name) line args items ++ tops_told edition tools behind
+
+-- one item: its rewriting and those of the items after it are those of all
+abbrev pub KeepsTop : Edition → List Tool → List NamePair → Element → List Element → List Element → Type 0
+KeepsTop edition tools names item old new = (behind : Tree) → new ++ tops edition tools names behind ≡ old ++ tops edition tools names (in_front item behind)
+
+abbrev pub TellsTop : Edition → List Tool → Element → List Change → List Change → Type 0
+TellsTop edition tools item old new = (behind : Tree) → new ++ tops_told edition tools behind ≡ old ++ tops_told edition tools (in_front item behind)

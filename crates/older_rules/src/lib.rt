@@ -1,0 +1,24 @@
+//! Older `.cabal` files. `modern_elements` takes the elements of a file of any cabal-version that Cabal reads, and
+//! returns elements that say the same under 2.4, 3.0 or 3.4, or the first cause to refuse the file.
+#![tactic(auto)]
+
+mod body;
+mod change;
+mod edition;
+mod flat;
+mod header;
+mod heads;
+mod item;
+mod laws;
+mod modern;
+mod names;
+mod refused;
+#[cfg(test)]
+mod tests;
+mod tools;
+mod tops;
+
+pub use change::Change;
+pub use edition::Edition;
+pub use laws::{header_first, one_outcome, sections_alone};
+pub use modern::{Modern, modern_elements};
