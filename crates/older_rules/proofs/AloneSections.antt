@@ -1,14 +1,13 @@
 -- Sections of which no change is told are as they were.
-use Rattle.std.proofs.Common.{◌≡◌, ℕ, Bool, true, false, cond, List, [], ◌∷◌, ◌++◌, refl, sym, ap, ◌∙◌, subst}
-use Rattle.std.specs.Prelude.{Option, None, Some, fold}
+use Rattle.std.proofs.Common.{◌≡◌, ℕ, Bool, true, false, cond, List, [], ◌∷◌, ◌++◌, refl, sym, ap, ◌∙◌}
+use Rattle.std.specs.Prelude.{Option, Some, fold}
 use Rattle.std.specs.List.{list_all}
 use Rattle.std.proofs.lemmas.Bool.{and_from, and_parts, false≢true}
 use Rattle.common_laws.specs.Lists.{all-append}
 use Rattle.common_laws.specs.Small.{same-is}
 use Rattle.plan_types.specs.Bytes.{same_text}
 use Rattle.plan_types.specs.declared.element.Element.{Element}
-use Rattle.plan_types.specs.declared.element.Element.TheVariants.{Field, Section}
-use Rattle.cabal_lexer.specs.Tree.{Tree, end, field, section, in_front, tree_of}
+use Rattle.cabal_lexer.specs.Tree.{Tree, end, field, section, tree_of}
 use Rattle.cabal_lexer.proofs.ElementTrees.{field_in_front, section_in_front}
 use Rattle.older_rules.specs.declared.body.FieldRule.{FieldRule}
 use Rattle.older_rules.specs.declared.body.FieldRule.TheVariants as rule
