@@ -176,6 +176,11 @@ class Strangers(Project):
         self.assertFalse([it for it in out.splitlines() if it.startswith("main.cabal:1: L999")])
         json.loads(self.says(1, "lint", [], COMPILER, "--format=json"))
 
+    def test_more_findings_than_are_told(self):
+        self.put("main.cabal", MAIN + "a\n" * 6000)
+        out = self.says(1, "lint", ["main.cabal:5009: L304 this file has 5000 findings and more"], COMPILER)
+        self.assertEqual(5001, len(out.splitlines()))
+
     def test_large_files(self):
         texts = (
             "library\n" + "".join(f"  fiel{it}: x\n" for it in range(2500)),

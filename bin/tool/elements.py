@@ -53,21 +53,23 @@ class Reader:
             inner = line.lstrip(BLANK)
             if inner and not inner.startswith("--"):
                 self.lines.append((number, len(line) - len(inner), inner))
+        self.go_to_line(0)
+
+    def go_to_line(self, at):
+        """Goes to the front of a line. `text` is the line without the blanks in front of it, empty behind the last one."""
+        self.at, self.col = at, 0
+        self.text = self.lines[at][2] if at < len(self.lines) else ""
 
     def is_over(self):
-        return self.at >= len(self.lines)
-
-    def text(self):
-        """Returns the line, without the blanks in front of it."""
-        return "" if self.is_over() else self.lines[self.at][2]
+        return not self.text
 
     def rest(self):
         """Returns the rest of the line."""
-        return self.text()[self.col :]
+        return self.text[self.col :]
 
     def has(self, mark):
         """Returns whether this mark comes next."""
-        return self.text().startswith(mark, self.col)
+        return self.text.startswith(mark, self.col)
 
     def number(self):
         return self.lines[min(self.at, len(self.lines) - 1)][0] if self.lines else 1
@@ -80,22 +82,25 @@ class Reader:
 
     def skip_to(self, col):
         """Moves on to this offset and behind the blanks there; at the end of a line to the next one."""
-        text = self.text()
+        text = self.text
         while col < len(text) and text[col] in BLANK:
             col += 1
-        self.at, self.col = (self.at, col) if col < len(text) else (self.at + 1, 0)
+        if col < len(text):
+            self.col = col
+        else:
+            self.go_to_line(self.at + 1)
 
     def elements(self, least, is_braced, depth):
         """Returns the elements of at least this indent, in braces up to the closing one."""
         found = []
         if depth > TOO_DEEP:
             raise Misread(self.number(), "sections too deep")
-        while not self.is_over():
+        while self.text:
             if self.has("}"):
                 if self.open:
                     return found
                 raise Misread(self.number(), "a brace that closes nothing")
-            if self.is_at_start() and self.indent() < least:
+            if not self.col and self.indent() < least:
                 return found
             found.append(self.element(depth))
         if is_braced:
@@ -106,22 +111,22 @@ class Reader:
         """Returns one field or section."""
         line, is_inline = self.number(), not self.is_at_start()
         indent = 0 if is_inline else self.indent()
-        named = NAME.match(self.text(), self.col)
+        named = NAME.match(self.text, self.col)
         if not named:
             raise Misread(line, "a line without a name")
-        at = COLON.match(self.text(), named.end()).end()
-        if self.text().startswith(":", at):
+        at = COLON.match(self.text, named.end()).end()
+        if self.text.startswith(":", at):
             return Field(named[0].lower(), *self.values(at + 1, indent, is_inline, line))
         return self.section(named[0].lower(), named.end(), indent, is_inline, depth)
 
     def brace(self, col):
         """Returns the offset of the first brace behind this one, or of the line's end."""
-        found = BRACE.search(self.text(), col)
-        return found.start() if found else len(self.text())
+        found = BRACE.search(self.text, col)
+        return found.start() if found else len(self.text)
 
     def section(self, name, col, indent, is_inline, depth):
         """Returns a section whose name ends at this offset."""
-        line, text = self.number(), self.text()
+        line, text = self.number(), self.text
         end = self.brace(col)
         args = text[col:end].strip(BLANK)
         self.skip_to(end)
@@ -174,11 +179,11 @@ class Reader:
         """Takes the rest of the line as a value."""
         found.append(self.rest())
         lines.append(self.number())
-        self.at, self.col = self.at + 1, 0
+        self.go_to_line(self.at + 1)
 
     def take_to(self, end, found, lines):
         """Takes the text up to this offset as a value, if there is any, and moves on to it."""
-        if value := self.text()[self.col : end].strip(BLANK):
+        if value := self.text[self.col : end].strip(BLANK):
             found.append(value)
             lines.append(self.number())
         self.skip_to(end)
@@ -192,11 +197,11 @@ class Reader:
         line = self.number()
         is_plain = self.rest() == "{" and not is_next
         self.skip_to(self.col + 1)
-        while not self.is_over() and self.text().find("}", self.col) < 0:
+        while not self.is_over() and self.text.find("}", self.col) < 0:
             self.take(found, lines)
         if self.is_over():
             raise Misread(line, "a brace that nothing closes")
-        end = self.text().index("}", self.col)
+        end = self.text.index("}", self.col)
         self.forms |= set() if is_plain and self.rest() == "}" else {FIELD_BRACES}
         self.take_to(end, found, lines)
         self.skip_to(end + 1)

@@ -16,6 +16,7 @@ CODES = {
     "L301": "the compiler of the plan isn't that of the records",
     "L302": "a folder that is missing or empty",
     "L303": "a file that can't be read",
+    "L304": "a file with more findings than are told",
 }
 # The most words for which a known one is looked up.
 MOST_SPELT = 200

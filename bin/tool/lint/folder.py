@@ -2,8 +2,8 @@
 
 import os
 import stat
+from itertools import islice
 
-from tool.elements import Misread, elements
 from tool.folder.project import FILES
 from tool.lint.findings import Finding, Speller
 from tool.lint.known import COMPILERS
@@ -13,19 +13,24 @@ from tool.refusal import UNPRINTABLE, shown
 from tool.why.force import COMPILER
 from tool.why.ranges import version
 from tool.why.reasons import notes
-from tool.why.texts import LARGEST
+from tool.why.texts import LARGEST, read
+
+# The most findings of one file that are told.
+MOST_FOUND = 5000
 
 
 def findings(folder, with_folders=True):
     """Returns the findings of a folder by file and line, those on folders that are missing if asked for."""
     found, speller = [], Speller()
     for file, text in folder.project.texts.items():
-        try:
-            items = elements(text)[0]
-        except Misread as error:
+        items, error = read(text)
+        if error:
             found.append(Finding(file, error.line, "L303", f"this file can't be read: {error}"))
             continue
-        found += (ProjectFile if file in FILES else Package)(file, items, text, speller).findings()
+        of_file = list(islice((ProjectFile if file in FILES else Package)(file, items, text, speller).findings(), MOST_FOUND))
+        found += of_file
+        if len(of_file) == MOST_FOUND:
+            found.append(Finding(file, of_file[-1].line, "L304", f"this file has {MOST_FOUND} findings and more: correct these first"))
     found += [*unread(folder), *odd_names(folder), *of_names(folder, speller), *optional(folder)]
     found += [*compiler(folder), *(Finding(it.split("`")[1], 1, "L302", it) for it in notes(folder) if with_folders)]
     places = {file: at for at, file in enumerate(folder.project.texts)}

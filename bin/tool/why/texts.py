@@ -2,6 +2,7 @@
 
 In: a folder, and paths below it. Out: texts and elements, or none. Whether a file can be used is for the program to say."""
 
+import functools
 import os
 import stat
 
@@ -46,12 +47,18 @@ def text_of(path):
     return None if found is None else found.decode("utf-8", "replace")
 
 
+@functools.lru_cache(maxsize=4)
+def read(text):
+    """Returns the elements of a text, or why it can't be read. The elements of the last texts are kept: don't change them."""
+    try:
+        return elements(text)[0], None
+    except Misread as error:
+        return [], error
+
+
 def items_of(text):
     """Returns the elements of a text; of one that can't be read, none."""
-    try:
-        return elements(text or "")[0]
-    except Misread:
-        return []
+    return read(text or "")[0]
 
 
 def listed(path):
