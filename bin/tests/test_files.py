@@ -119,6 +119,22 @@ class Files(Room):
         self.assertEqual(before, listing(f"{self.room}/src"))
         self.assertFalse(os.path.exists(f"{self.room}/made"))
 
+    def test_a_removal_that_is_ended_leaves_the_mark(self):
+        for name in ("a", "b", ".made", "z"):
+            self.write(f"made/{name}.conf" if name != ".made" else "made/.made", "")
+        unlink = files.os.unlink
+
+        def ended(name, dir_fd):
+            if name == "z.conf":
+                raise KeyboardInterrupt
+            unlink(name, dir_fd=dir_fd)
+
+        files.os.unlink = ended
+        self.addCleanup(setattr, files.os, "unlink", unlink)
+        with files.opened(self.room) as handle, self.assertRaises(KeyboardInterrupt):
+            files.remove_folder("made", handle, lambda path, mode: True, ".made")
+        self.assertEqual([".made", "z.conf"], sorted(os.listdir(f"{self.room}/made")))
+
     def test_a_link_replaces_only_a_link_of_ours(self):
         os.makedirs(f"{self.room}/work")
         with files.opened(self.room) as within, files.opened(f"{self.room}/work") as work:

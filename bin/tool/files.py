@@ -146,9 +146,9 @@ def look(handle, is_made, path=()):
                 look(below, is_made, at)
 
 
-def empty(handle):
-    """Removes what is in a folder."""
-    for name, mode in entries(handle):
+def empty(handle, last=None):
+    """Removes what is in a folder, and the file of the name `last` after all others."""
+    for name, mode in sorted(entries(handle), key=lambda it: it[0] == last):
         if mode is not None and stat.S_ISDIR(mode):
             with opened(name, handle) as below:
                 empty(below)
@@ -157,11 +157,12 @@ def empty(handle):
             os.unlink(name, dir_fd=handle)
 
 
-def remove_folder(name, within, is_made):
-    """Removes a folder, if all in it is of the tool; else it raises an error before anything is removed."""
+def remove_folder(name, within, is_made, last=None):
+    """Removes a folder, if all in it is of the tool; else it raises an error before anything is removed. The file `last`
+    goes at the end, so that a folder of which a part is removed can still be told."""
     with opened(name, within) as handle:
         look(handle, is_made)
-        empty(handle)
+        empty(handle, last)
     os.rmdir(name, dir_fd=within)
 
 

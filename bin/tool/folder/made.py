@@ -114,18 +114,22 @@ class Own:
                 files.unlink(name, self.handle)
 
     def has_mark(self, name, kinds):
-        """Returns whether a folder has the mark of one of these kinds. A new one may have no mark yet, and nothing else."""
+        """Returns whether a folder has the mark of one of these kinds."""
         with files.opened(name, self.handle) as handle:
-            there = files.small_file(MARK, handle)
-            is_begun = name == NEW and there in (None, b"") and set(os.listdir(handle)) <= {MARK}
-            return is_begun or there in [mark(handle, it) for it in kinds]
+            return files.small_file(MARK, handle) in [mark(handle, it) for it in kinds]
+
+    def is_empty(self, name):
+        """Returns whether a folder has nothing in it, or only a mark that was never written: a run was ended there."""
+        with files.opened(name, self.handle) as handle:
+            there = os.listdir(handle)
+            return not there or (there == [MARK] and files.small_file(MARK, handle) == b"")
 
     def remove(self, name, kinds):
         """Removes a folder that the tool has made, unless it has something else in it."""
         try:
-            if not self.has_mark(name, kinds):
-                raise Foreign(MARK)
-            files.remove_folder(name, self.handle, lambda path, mode: any(is_made(it, path, mode) for it in kinds))
+            if not self.has_mark(name, kinds) and not self.is_empty(name):
+                raise Foreign("no mark, so something in it")
+            files.remove_folder(name, self.handle, lambda path, mode: any(is_made(it, path, mode) for it in kinds), MARK)
         except Foreign as foreign:
             self.say(f"{OWN}/{name} has {shown(foreign)}, which this tool hasn't made: it stays")
         except OSError as error:
@@ -154,6 +158,9 @@ class Own:
         """Returns whether a folder is there already, and refuses one that the tool hasn't made."""
         mode = files.kind_of(name, self.handle)
         if mode is None:
+            return False
+        if stat.S_ISDIR(mode) and self.is_empty(name):
+            self.remove(name, [kind])
             return False
         if not stat.S_ISDIR(mode) or not self.has_mark(name, [kind]):
             raise Refusal(f"{OWN}/{name} is here already, and this tool hasn't made it: move it away")
