@@ -7,7 +7,7 @@ COMMENT = re.compile(r"--.*", re.S)
 KINDS = (
     ("name", re.compile(r"[0-9A-Za-z'\-.;_`\x80-\U0010ffff]+")),
     ("string", re.compile(r'"((?:[^"\\]|\\.)*)"')),
-    ("sign", re.compile(r"[!#$%&*+,\-./<=>?@\\^|~]+")),
+    ("sign", re.compile(r"[!#$%&+*,\-./<=>?@\\^|~]+")),
     ("sign", re.compile(r"[()\[\]]")),
 )
 BLANKS = " \t"
