@@ -3,12 +3,20 @@
 import os
 import sys
 from importlib.machinery import SourceFileLoader
-from importlib.util import module_from_spec, spec_from_loader
+from importlib.util import module_from_spec, spec_from_file_location, spec_from_loader
 
 HERE = os.path.dirname(os.path.realpath(__file__))
 TOP = os.path.dirname(HERE)
-# Here alone it is said where the tool's package is.
-sys.path.append(f"{TOP}/bin")
+
+
+def package(name, folder):
+    """Makes a package of another folder known by its name."""
+    spec = spec_from_file_location(name, f"{folder}/__init__.py", submodule_search_locations=[folder])
+    sys.modules[name] = module_from_spec(spec)
+    spec.loader.exec_module(sys.modules[name])
+
+
+package("tool", f"{TOP}/bin/tool")
 
 from tool.ends import ended, say
 

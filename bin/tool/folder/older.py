@@ -2,6 +2,7 @@
 
 In: the bytes of a file. Out: the bytes of the copy, and the kinds of changes: none if the file stays as it is."""
 
+import collections
 import re
 
 from tool.elements import Field, Misread, Section, elements, printed, walk
@@ -178,9 +179,12 @@ def renamed(items):
     components = [it for it in items if isinstance(it, Section) and it.name in COMPONENTS]
     taken = {it.args for it in components}
     odd = [it for it in components if re.search(r"[^A-Za-z0-9_-]", it.args)]
+    tries = collections.Counter()
     for it in odd:
         plain = re.sub(r"[^A-Za-z0-9_-]", "_", it.args.strip('"'))
-        it.args = next(name for name in (plain + "_" * count for count in range(len(taken) + 1)) if name not in taken)
+        while plain + "_" * tries[plain] in taken:
+            tries[plain] += 1
+        it.args = plain + "_" * tries[plain]
         taken.add(it.args)
     return {NAMES} if odd else set()
 
