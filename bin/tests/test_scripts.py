@@ -19,6 +19,19 @@ def scripts():
     return [it for it in found if not it.endswith(".py") and it not in LEFT_OUT]
 
 
+# A script heeds only signals that its caller doesn't ignore, as one in the background or under `nohup` does.
+HEEDED = ["env", "--default-signal=INT,HUP,TERM"]
+
+
+def said(ran):
+    """Returns what a script says until it ends. One that goes on is killed, and fails the test."""
+    try:
+        return ran.communicate(timeout=20)[1].decode()
+    except subprocess.TimeoutExpired:
+        ran.kill()
+        raise
+
+
 def has_room(folder, name):
     """Returns whether `bench/reading`, which writes files for seconds before it runs anything, has its room."""
     return name == "bench/reading" and any(it.startswith("reading-") for it in os.listdir(folder))
@@ -82,12 +95,12 @@ class Scripts(Room):
         began = f"{self.room}/began-{name.replace('/', '-')}"
         of = self.environment(TMPDIR=os.path.dirname(self.write(f"rooms-{name.replace('/', '-')}/.keep", "")), BEGAN=began)
         how = {"stdin": subprocess.DEVNULL, "stdout": subprocess.DEVNULL, "stderr": subprocess.PIPE, "cwd": self.at, "env": of}
-        with subprocess.Popen([f"{TOP}/{name}", *words], **how) as ran:
+        with subprocess.Popen([*HEEDED, f"{TOP}/{name}", *words], **how) as ran:
             until = time.monotonic() + 20
             while time.monotonic() < until and ran.poll() is None and not os.path.exists(began) and not has_room(of["TMPDIR"], name):
                 time.sleep(0.02)
             ran.send_signal(number)
-            told = ran.communicate(timeout=20)[1].decode()
+            told = said(ran)
         return name, ran.returncode - number, told, os.listdir(of["TMPDIR"])
 
     def test_signals(self):
@@ -115,11 +128,11 @@ class Scripts(Room):
             began = f"{self.room}/began"
             planner = self.script("planner", f"#!/bin/sh\ntouch {began}\nexec sleep 30\n")
             words = [f"{TOP}/bin/cabal-plan", "folder", f"--index={self.room}/packages", f"--program={planner}", "--run"]
-            with subprocess.Popen(words, cwd=self.project, env=self.environment(), stdout=subprocess.DEVNULL, stderr=subprocess.PIPE) as ran:
+            with subprocess.Popen([*HEEDED, *words], cwd=self.project, env=self.environment(), stdout=subprocess.DEVNULL, stderr=subprocess.PIPE) as ran:
                 while not os.path.exists(began) and ran.poll() is None:
                     time.sleep(0.02)
                 ran.send_signal(number)
-                told = ran.communicate(timeout=20)[1].decode()
+                told = said(ran)
             self.assertEqual(128 + number, ran.returncode, told)
             self.assertNotIn("Traceback", told)
             os.remove(began)
