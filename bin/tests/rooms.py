@@ -23,6 +23,8 @@ esac
 # A script that tells that it was run, as a stranger's would do worse.
 EVIL = "#!/bin/sh\ntouch {}\n"
 SECONDS = 60
+# A script heeds only signals that its caller doesn't ignore, as one in the background or under `nohup` does.
+HEEDED = ["env", "--default-signal=INT,HUP,TERM"]
 
 
 def listing(folder):
@@ -118,4 +120,4 @@ class Room(unittest.TestCase):
             return file.read().splitlines()
 
 
-__all__ = ["CABAL", "EVIL", "GHC", "PACKAGE", "RECORD", "TOP", "Room", "listing", "signal"]
+__all__ = ["CABAL", "EVIL", "GHC", "HEEDED", "PACKAGE", "RECORD", "TOP", "Room", "listing", "signal"]

@@ -6,7 +6,7 @@ import signal
 import subprocess
 import time
 
-from tests.rooms import TOP, Room, listing
+from tests.rooms import HEEDED, TOP, Room, listing
 
 # The words of `try-plan` are those of the program, which it compiles.
 LEFT_OUT = ("bin/try-plan",)
@@ -17,10 +17,6 @@ def scripts():
     """Returns the paths of all scripts."""
     found = [f"{top}/{it}" for top in ("bin", "bench") for it in sorted(os.listdir(f"{TOP}/{top}")) if os.path.isfile(f"{TOP}/{top}/{it}")]
     return [it for it in found if not it.endswith(".py") and it not in LEFT_OUT]
-
-
-# A script heeds only signals that its caller doesn't ignore, as one in the background or under `nohup` does.
-HEEDED = ["env", "--default-signal=INT,HUP,TERM"]
 
 
 def said(ran):

@@ -4,7 +4,7 @@ import os
 import time
 
 from tests.reasons import COMPILER, MAIN, PACKAGE, PROGRAM, Project
-from tests.rooms import TOP
+from tests.rooms import HEEDED, TOP
 from tool.why.chain import Chain
 from tool.why.facts import Facts, Folder
 from tool.why.ranges import admits
@@ -356,7 +356,7 @@ class Strangers(Project):
             "stub",
             f'#!/bin/sh\nls {rooms} >>{self.room}/log\ncase $PWD in {rooms}*) kill -INT $PPID; sleep 5;; esac\nexec {TOP}/dist/cabal-plan "$@"\n',
         )
-        ran = self.run_script([f"{TOP}/bin/cabal-plan", "why", f"--program={program}", COMPILER], self.p, self.environment(TMPDIR=rooms))
+        ran = self.run_script([*HEEDED, f"{TOP}/bin/cabal-plan", "why", f"--program={program}", COMPILER], self.p, self.environment(TMPDIR=rooms))
         self.assertEqual((130, []), (ran.returncode, os.listdir(rooms)), ran.err)
 
     def test_long_lines(self):
