@@ -11,6 +11,7 @@ import shutil
 import stat
 import tempfile
 
+from tool.ends import hold, release
 from tool.refusal import Refusal, shown
 
 FOLDER = os.O_RDONLY | os.O_DIRECTORY | os.O_NOFOLLOW | os.O_CLOEXEC
@@ -347,8 +348,15 @@ def hard_link(one, other):
 
 @contextlib.contextmanager
 def new_room(prefix, within=None):
-    """Yields a new folder, which is removed at the end."""
-    with tempfile.TemporaryDirectory(prefix=prefix, dir=within) as path:
+    """Yields a new folder, which is removed at the end. A signal waits until the folder is sure to be removed."""
+    hold()
+    try:
+        made = tempfile.TemporaryDirectory(prefix=prefix, dir=within)
+    except BaseException:
+        release()
+        raise
+    with made as path:
+        release()
         yield Room(path)
 
 
