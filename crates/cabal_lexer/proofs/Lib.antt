@@ -13,4 +13,3 @@ pub mod CanonicalLines
 pub mod Again
 pub mod RoundTrip
 pub mod ElementTrees
-pub mod IsPrintable

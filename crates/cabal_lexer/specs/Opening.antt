@@ -1,9 +1,9 @@
 -- The openings of elements: the texts of their first lines.
-use Rattle.std.specs.Prelude.{ℕ, ◌-◌, Bool, ◌&&◌, ◌||◌, not, List, ◌==◌, if◌then◌else◌, length, map, take, drop, slice_index, nat_le}
+use Rattle.std.specs.Prelude.{ℕ, ◌-◌, Bool, ◌&&◌, ◌||◌, List, ◌==◌, if◌then◌else◌, length, map, take, drop, slice_index, nat_le}
 use Rattle.std.specs.declared.result.Result.{Result}
 use Rattle.std.specs.declared.result.Result.TheVariants.{Ok, Err}
 use Rattle.std.specs.List.{prefix_len, list_any}
-use Rattle.std.specs.Char.{to_ascii_lowercase, is_ascii_uppercase}
+use Rattle.std.specs.Char.{to_ascii_lowercase}
 use Rattle.plan_types.specs.declared.refusal.Cause.{Cause}
 use Rattle.plan_types.specs.declared.refusal.Cause.TheVariants.{StrayBrace, BadName, TooDeep}
 use Rattle.plan_types.specs.Name.{is_letter, is_letter_or_digit}
@@ -26,10 +26,6 @@ pub data Opening : Type 0 where
 -- an ASCII letter, a digit, `-`, `_` or `.`
 abbrev pub is_name_byte : ℕ → Bool
 is_name_byte b = is_letter_or_digit b || b == 45 || b == 95 || b == 46
-
--- the same, and no upper case
-abbrev pub is_lower_name_byte : ℕ → Bool
-is_lower_name_byte b = is_name_byte b && not (is_ascii_uppercase b)
 
 -- the length of the name at the start of a text
 unfoldable pub name_len : List ℕ → ℕ

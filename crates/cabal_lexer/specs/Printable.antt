@@ -1,5 +1,5 @@
 -- Trees that a canonical text expresses.
-use Rattle.std.specs.Prelude.{ℕ, ◌≡◌, ◌+◌, ◌<◌, Bool, true, false, ◌&&◌, not, List, [], ◌∷◌, ◌==◌, length, reverse, nat_le}
+use Rattle.std.specs.Prelude.{ℕ, ◌≡◌, ◌+◌, ◌<◌, true, false, not, List, [], ◌∷◌, ◌==◌, length, reverse, nat_le}
 use Rattle.std.specs.List.{list_all, list_any, All}
 use Rattle.std.specs.Str.{IsUtf8}
 use Rattle.plan_types.specs.declared.element.Element.{Element}
@@ -7,7 +7,7 @@ use Rattle.plan_types.specs.declared.element.Element.TheVariants.{Field, Section
 use Rattle.plan_types.specs.Name.{is_letter}
 use Rattle.plan_types.specs.Bytes.{begins_with}
 use Rattle.cabal_lexer.specs.Lines.{indent, is_comment}
-use Rattle.cabal_lexer.specs.Opening.{is_name_byte, is_lower_name_byte, lower_case, ends_with_brace}
+use Rattle.cabal_lexer.specs.Opening.{is_name_byte, lower_case, ends_with_brace}
 use Rattle.cabal_lexer.specs.RoundTrip.{ends_with_return}
 
 -- a text without a line feed
@@ -27,17 +27,6 @@ pub record IsName (name : List ℕ) : Type 0 where
   pub letter : list_any is_letter name ≡ true
   pub lower : lower_case name ≡ name
   pub code : is_comment name ≡ false
-
--- whether a text is a name in lower case
-abbrev pub is_name : List ℕ → Bool
-is_name name = list_all is_lower_name_byte name && list_any is_letter name && not (is_comment name)
-
-abbrev pub is_one_line : List ℕ → Bool
-is_one_line text = list_all (λ b. not (b == 10)) text
-
--- whether a text is of one line, without blanks at its ends and without a carriage return at its end
-abbrev pub is_plain : List ℕ → Bool
-is_plain text = (indent text == 0) && (indent (reverse text) == 0) && is_one_line text && not (ends_with_return text)
 
 -- the text of a kept line
 pub record IsKeptText (text : List ℕ) : Type 0 where

@@ -3,8 +3,7 @@
 //! `into_text` and `elements_of` do the same in two steps, for a caller that keeps the text.
 //! `items_of` reads lines that a caller makes.
 //! `print_elements` returns the canonical text of a tree. The text of a printable tree parses as the same tree, except
-//! for line numbers. A tree that was read is printable, unless a value or args end with a carriage return;
-//! `is_printable` tests any other.
+//! for line numbers. A tree that was read is printable, unless a value or args end with a carriage return.
 #![tactic(auto)]
 
 mod elements;
@@ -13,12 +12,10 @@ mod laws;
 mod lines;
 mod opening;
 mod print;
-mod printable;
 mod read;
 
 pub use laws::{one_fault, one_tree, printable_tree, printed_tree, round_trip, tree_or_fault};
 pub use lines::{Line, indent, is_comment, is_lone, kept_lines, trim, trim_end, trim_start};
 pub use opening::name_len;
 pub use print::print_elements;
-pub use printable::is_printable;
 pub use read::{as_text, elements_of, into_text, items_of, read_elements};

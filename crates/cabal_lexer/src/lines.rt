@@ -110,7 +110,7 @@ pub fn trim_start(text: &str) -> &str
 }
 
 #[tactic(auto, unfolding(crate::specs::Lines::indent))]
-pub fn trailing(text: &[u8]) -> usize
+fn trailing(text: &[u8]) -> usize
     ensures { result ≡ indent (reverse text.now) }
 {
     text.iter()

@@ -44,13 +44,13 @@ fn begun(text: &str) -> Result<Opening<'_>, Cause>
     named(name, trim_start(rest))
 }
 
-pub fn begins_with(text: &str, byte: u8) -> bool
+fn begins_with(text: &str, byte: u8) -> bool
     ensures { result ≡ begins_with byte text.now }
 {
     text.as_bytes().first() == Some(&byte)
 }
 
-pub fn is_name_byte(byte: u8) -> bool
+fn is_name_byte(byte: u8) -> bool
     ensures { result ≡ is_name_byte byte }
 {
     byte.is_ascii_alphanumeric() || byte == b'-' || byte == b'_' || byte == b'.'
@@ -64,14 +64,14 @@ pub fn name_len(text: &[u8]) -> usize
     text.iter().take_while(|byte| is_name_byte(**byte)).count()
 }
 
-pub fn has_letter(name: &[u8]) -> bool
+fn has_letter(name: &[u8]) -> bool
     ensures { result ≡ list_any is_letter name.now }
 {
     name.iter().any(|byte| byte.is_ascii_alphabetic())
 }
 
 #[tactic(auto, unfolding(crate::specs::Opening::ends_with_brace))]
-pub fn ends_with_brace(text: &[u8]) -> bool
+fn ends_with_brace(text: &[u8]) -> bool
     ensures { result ≡ ends_with_brace text.now }
 {
     text.last() == Some(&b'{')

@@ -8,7 +8,7 @@ ghost use Rattle.older_headers.specs.Answers.{IsAnswer, IsRead, IsRefusal, IsSai
 
 use crate::same::are_same;
 use cabal_lexer::{
-    is_printable, one_tree, print_elements, printed_tree, read_elements, tree_or_fault,
+    one_tree, print_elements, read_elements, tree_or_fault,
 };
 use older_layout::read_older;
 use older_rules::{Change, Modern, modern_elements};
@@ -115,7 +115,7 @@ fn said(alloc: Global, modern: Modern) -> Result<Answer, Fault>
     if FILE_LIMIT < text.as_bytes().len() {
         return Err(too_large());
     }
-    if says(alloc, &text, &modern.items)? {
+    if says(alloc, &text, modern.items.as_slice())? {
         Ok(Answer::Rewritten {
             text,
             changes: modern.changes,
@@ -144,19 +144,7 @@ fn unsayable() -> Fault
 }
 
 /// Whether the text of elements is read as these elements.
-fn says(alloc: Global, text: &Text, items: &List<Element>) -> Result<bool, NoMemory>
-    requires text { text.now ≡ canonical items.now }
-    requires within { length text.now ≤ 1048576 }
-    ensures { IfOk result (λ found. Decides found (Says text.now items.now)) }
-{
-    if is_printable(items.as_slice()) {
-        printed_tree();
-        return Ok(true);
-    }
-    is_read_as(alloc, text, items.as_slice())
-}
-
-fn is_read_as(alloc: Global, text: &Text, items: &[Element]) -> Result<bool, NoMemory>
+fn says(alloc: Global, text: &Text, items: &[Element]) -> Result<bool, NoMemory>
     requires { length text.now ≤ 1048576 }
     ensures { IfOk result (λ found. Decides found (Says text.now items.now)) }
 {
