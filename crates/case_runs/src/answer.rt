@@ -1,10 +1,14 @@
 // The answer of a run, and its difference from the wanted one.
 use crate::case::Run;
+use modern_files::rewrite_files;
 use outside_folder::{Folder, MemFault, MemFile, MemFolder, MemSink};
 use plan_command::{code_of, run};
 use plan_types::{List, NoMemory, Text};
 use sha2::{Digest, Sha256};
 use std::alloc::Global;
+
+/// The first word of a run of the program `modern-headers`; the others are its lists.
+const MODERN: &str = "modern-headers";
 
 /// The call on the folder and the write that fail, counted from 1 (0: none), the most bytes of a write, and the sink's
 /// room in bytes.
@@ -73,7 +77,12 @@ fn status_of<F: Folder>(
     folder: &mut F,
     out: &mut MemSink,
 ) -> u8 {
-    code_of(run(alloc, words.as_slice(), folder, out))
+    match words.as_slice() {
+        [first, lists @ ..] if first.as_str() == MODERN => {
+            modern_files::code_of(rewrite_files(alloc, lists, folder, out))
+        }
+        words => code_of(run(alloc, words, folder, out)),
+    }
 }
 
 /// The printed bytes as a text.
