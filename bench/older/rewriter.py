@@ -56,6 +56,8 @@ def unframed(output):
     while at < len(output):
         line, at = line_at(output, at)
         kind, _, path = line.partition(" ")
+        if kind == "missing":
+            continue
         if kind == "unchanged":
             yield path, None
         elif kind == "rewritten":
