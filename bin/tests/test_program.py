@@ -10,9 +10,8 @@ from tests.rooms import TOP, Room
 
 SUMS = """import sys
 sys.path[:0] = ['.']
-from tool.program import *
-crates = below(PROGRAM, table(), {})
-print(sum_of(TOP, crates, sources(crates)))
+from tool.program import CRATES, Sources
+print(*(Sources(name).sum() for name in CRATES))
 """
 PROGRAM = b'#!/bin/sh\necho "planned $*"\nexit 2\n'
 
