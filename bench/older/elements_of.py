@@ -21,7 +21,7 @@ def formed(it):
 
 def in_python(content):
     try:
-        return {"elements": [formed(it) for it in elements(decoded(content))[0]]}
+        return {"elements": [formed(it) for it in elements(decoded(content))]}
     except Misread as error:
         return {"refused": str(error)}
 

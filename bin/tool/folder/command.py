@@ -41,7 +41,7 @@ def words_of(given):
     parser.add_argument("--newest", metavar="N", type=number(1), help="keep the N newest versions of each name")
     parser.add_argument("--run", action="store_true", help="plan at once")
     parser.add_argument("--program", metavar="PATH", help="the planner; else the proved one of this tool")
-    parser.add_argument(f"--{MODERN}", metavar="PATH", help="the program that rewrites older headers; else the proved one of this tool")
+    parser.add_argument("--modern-headers", metavar="PATH", help="the program that rewrites older headers; else the proved one of this tool")
     return parser.parse_args(given[:at]), given[at + 1 :]
 
 

@@ -52,7 +52,7 @@ def read_elements(folder, file):
     if not os.path.exists(path):
         return []
     try:
-        return elements(decoded(content(path)))[0]
+        return elements(decoded(content(path)))
     except Misread as error:
         raise Refusal(f"{file} can't be read: {error}") from error
 
