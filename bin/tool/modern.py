@@ -14,8 +14,12 @@ from tool.refusal import Refusal, shown
 
 UNCHANGED, REWRITTEN, REFUSED, MISSING = "unchanged", "rewritten", "refused", "missing"
 # The kinds of changes in words. Those of the second table have the line of the older file behind them.
-KINDS = {"header": "header", "build-type": "build-type: Custom said", "custom-setup": "custom-setup said", "sections": "fields without sections"}
-KINDS_AT = {"left-out": "parts that Cabal passes over", "build-tools": "build-tools", "unknown-tool": "unknown tools", "component-name": "component names"}
+KINDS = {
+    "header": "header", "build-type": "build-type: Custom said", "custom-setup": "custom-setup said", "sections": "fields without sections",
+}  # fmt: skip
+KINDS_AT = {
+    "left-out": "parts that Cabal passes over", "build-tools": "build-tools", "unknown-tool": "unknown tools", "component-name": "component names",
+}  # fmt: skip
 # What is said of a text with another layout or encoding and no other change.
 LAYOUT = "layout"
 # The most bytes of a list and of a text, which are those of the program, of a line of a frame, and of a message.
