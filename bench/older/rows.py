@@ -2,6 +2,7 @@
 
 import collections
 import json
+import os
 import re
 
 LONGEST = 160
@@ -34,10 +35,13 @@ def class_of_error(parsed):
 class Rows:
     """The rows that were printed, their counts by cause, and the counts of what is alike."""
 
-    def __init__(self, prints):
-        self.prints, self.causes, self.notes = prints, collections.Counter(), collections.Counter()
+    def __init__(self, prints, known=()):
+        self.prints, self.known, self.causes, self.notes = prints, known, collections.Counter(), collections.Counter()
 
     def add(self, path, what, before, after, cause):
+        if os.path.basename(os.path.dirname(path)) in self.known:
+            self.note("a difference that docs/OLDER.md has")
+            return
         self.causes[cause] += 1
         if self.prints:
             print("\t".join(told(it) for it in (path, what, before, after)))
