@@ -1,2 +1,4 @@
 mod Made
+mod OneOutcome
 mod Parts
+mod TextStays

@@ -1,6 +1,5 @@
 -- Equal elements have equal parts.
-use Rattle.std.proofs.Common.{◌≡◌, ℕ, Bool, true, false, List, [], ◌∷◌, refl, sym, ◌∙◌, ap}
-use Rattle.std.specs.Prelude.{map}
+use Rattle.std.proofs.Common.{◌≡◌, ℕ, Bool, true, false, List, [], sym, ◌∙◌, ap}
 use Rattle.plan_types.specs.declared.element.Element.{Element, Element-F, fold-Element, out-Element, out-roll-Element}
 use Rattle.plan_types.specs.declared.element.Element.TheOpen as open'
 use Rattle.plan_types.specs.declared.element.Element.TheVariants.{Field, Section, rolls-Field, rolls-Section}

@@ -1,5 +1,5 @@
 -- What becomes of a file.
-use Rattle.std.specs.Prelude.{◌≡◌, ◌⊎◌, ◌≤◌, ◌<◌, length, ℕ, Bool, true, false, ◌||◌, ◌&&◌, List, [], ◌∷◌, codes, Ok, Err}
+use Rattle.std.specs.Prelude.{◌≡◌, ◌⊎◌, ◌≤◌, ◌<◌, length, ℕ, Bool, true, false, ◌||◌, ◌&&◌, List, codes, Ok, Err}
 use Rattle.plan_types.specs.Bytes.{joined_text, same_text}
 use Rattle.plan_types.specs.declared.element.Element.{Element}
 use Rattle.plan_types.specs.declared.refusal.Cause.{Cause}

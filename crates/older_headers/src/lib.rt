@@ -4,6 +4,8 @@
 #![tactic(auto)]
 
 mod answer;
+mod laws;
 mod same;
 
 pub use answer::{Answer, modern_file};
+pub use laws::{answer_or_refusal, one_answer, one_refusal, text_stays};

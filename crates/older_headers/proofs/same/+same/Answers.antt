@@ -1,4 +1,4 @@
-use Rattle.std.proofs.Common.{◌≡◌, true, sym, ◌∙◌, ap}
+use Rattle.std.proofs.Common.{sym, ◌∙◌, ap}
 use Rattle.cabal_lexer.specs.RoundTrip.{unnumbered}
 use Rattle.older_headers.proofs.Parts.{zero, section-parts, same-sections}
 use Rattle.older_headers.proofs.same.+same.Goals as goal
