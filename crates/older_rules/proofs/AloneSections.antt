@@ -1,6 +1,6 @@
 -- Sections of which no change is told are as they were.
 use Rattle.std.proofs.Common.{◌≡◌, ℕ, Bool, true, false, cond, List, [], ◌∷◌, ◌++◌, refl, sym, ap, ◌∙◌}
-use Rattle.std.specs.Prelude.{Option, Some, fold}
+use Rattle.std.specs.Prelude.{Option, Some, None, fold, unwrap_or}
 use Rattle.std.specs.List.{list_all}
 use Rattle.std.proofs.lemmas.Bool.{and_from, and_parts, false≢true}
 use Rattle.common_laws.specs.Lists.{all-append}
@@ -17,13 +17,11 @@ use Rattle.older_rules.specs.declared.change.Change.{Change}
 use Rattle.older_rules.specs.declared.change.Change.TheVariants.{Name}
 use Rattle.older_rules.specs.declared.edition.Edition.{Edition}
 use Rattle.older_rules.specs.declared.edition.Edition.TheVariants.{V3_4}
-use Rattle.older_rules.specs.declared.names.NamePair.{NamePair}
-use Rattle.older_rules.specs.declared.names.Naming.{Naming}
-use Rattle.older_rules.specs.declared.tools.Tool.{Tool}
 use Rattle.older_rules.specs.declared.tops.TopRule.{TopRule}
 use Rattle.older_rules.specs.declared.tops.TopRule.TheVariants as top
 use Rattle.older_rules.specs.Bodies.{field_rule, place_of, chained_after, is_opening, field_kept, field_told, section_kept, section_told, kept, told}
-use Rattle.older_rules.specs.Names.{find_name, fresh, is_odd, new_name, new_or, renamed, with_name, with_odd}
+use Rattle.older_rules.specs.NameMaps.{Entry, is_named, text_for}
+use Rattle.older_rules.specs.Names.{Naming, fresh, is_odd, lacks_name, new_name, put, renamed, so_far, with_name, with_new}
 use Rattle.older_rules.specs.Tops.{name_told, top_rule, top_kept, top_told, tops, tops_told}
 
 abbrev is_cons : {A : Type 0} → List A → Bool
@@ -43,7 +41,7 @@ back_nil (x ∷ xs) ys h = absurd (not_nil x (xs ++ ys) h)
 
 -- ---- the items of a section
 
-module _ (tools : List Tool) where
+module _ (tools : List Entry) where
   field_case : (r : FieldRule) (line : ℕ) (name : List ℕ) (values : List (List ℕ)) (more : List Element) (others : List Change) (behind : Tree) →
       field_told tools r line values ++ others ≡ [] → (others ≡ [] → tree_of more ≡ behind) →
       tree_of (field_kept tools r line name values ++ more) ≡ field line name values behind
@@ -62,7 +60,7 @@ section_case place.Closes line name args inner itold items more others behind h 
     section_in_front line name args inner (tree_of more)
     ∙ ap (λ t. section line name args t (tree_of more)) (k (front_nil itold others h)) ∙ ap (section line name args items) (l (back_nil itold others h))
 
-kept_alone : (edition : Edition) (tools : List Tool) (chained : Bool) (tree : Tree) → told edition tools chained tree ≡ [] → tree_of (kept edition tools chained tree) ≡ tree
+kept_alone : (edition : Edition) (tools : List Entry) (chained : Bool) (tree : Tree) → told edition tools chained tree ≡ [] → tree_of (kept edition tools chained tree) ≡ tree
 unfolding kept told
 kept_alone edition tools chained end h = refl
 kept_alone edition tools chained (field line name values behind) h =
@@ -80,7 +78,7 @@ name_case : (b : Bool) (line : ℕ) → cond b (Name line ∷ []) [] ≡ [] → 
 name_case true line h = absurd (not_nil _ _ h)
 name_case false line h = refl
 
-top_case : (edition : Edition) (tools : List Tool) (names : List NamePair) → ((args : List ℕ) → is_odd args ≡ false → new_name names args ≡ args) →
+top_case : (edition : Edition) (tools : List Entry) (names : List Entry) → ((args : List ℕ) → is_odd args ≡ false → new_name names args ≡ args) →
     (r : TopRule) (line : ℕ) (name args : List ℕ) (items : Tree) (more : List Element) (others : List Change) (behind : Tree) →
     top_told edition tools r line args items ++ others ≡ [] → (others ≡ [] → tree_of more ≡ behind) →
     tree_of (top_kept edition tools names r line name args items ++ more) ≡ section line name args items behind
@@ -101,7 +99,7 @@ top_case edition tools names plain top.Other line name args items more others be
     ∙ ap (λ t. section line name args t (tree_of more)) (kept_alone V3_4 tools false items (front_nil (told V3_4 tools false items) others h))
     ∙ ap (section line name args items) (k (back_nil (told V3_4 tools false items) others h))
 
-tops_alone : (edition : Edition) (tools : List Tool) (names : List NamePair) → ((args : List ℕ) → is_odd args ≡ false → new_name names args ≡ args) →
+tops_alone : (edition : Edition) (tools : List Entry) (names : List Entry) → ((args : List ℕ) → is_odd args ≡ false → new_name names args ≡ args) →
     (tree : Tree) → tops_told edition tools tree ≡ [] → tree_of (tops edition tools names tree) ≡ tree
 unfolding tops tops_told
 tops_alone edition tools names plain end h = refl
@@ -112,30 +110,39 @@ tops_alone edition tools names plain (section line name args items behind) h =
 
 -- ---- only names with other bytes are replaced
 
-named_by : (b : Bool) (naming : Naming) (name : List ℕ) → is_odd name ≡ b → list_all (λ one. is_odd one.old) naming.found ≡ true →
-    list_all (λ one. is_odd one.old) (cond b (with_odd naming name) naming).found ≡ true
-named_by true naming name e h =
-    all-append (λ one. is_odd one.old) naming.found (record { old = name; new = fresh naming.taken name } ∷ [])
-    ∙ and_from _ _ h (and_from _ _ e refl)
-named_by false naming name e h = h
+abbrev all_odd : List Entry → Bool
+all_odd found = list_all (λ one. is_odd one.0) found
 
-all_odd : (naming : Naming) (names : List (List ℕ)) → list_all (λ one. is_odd one.old) naming.found ≡ true → list_all (λ one. is_odd one.old) (fold with_name naming names).found ≡ true
-all_odd naming [] h = h
-all_odd naming (name ∷ names) h = all_odd (with_name naming name) names (named_by (is_odd name) naming name refl h)
+odd_first : (b : Bool) (found : List Entry) (one : Entry) → is_odd one.0 ≡ true → all_odd found ≡ true → all_odd (cond b found (found ++ one ∷ [])) ≡ true
+odd_first true found one odd h = h
+odd_first false found one odd h = all-append (λ e. is_odd e.0) found (one ∷ []) ∙ and_from _ _ h (and_from _ _ odd refl)
 
-found_by : (b : Bool) (one : NamePair) (args : List ℕ) (rest : Option NamePair) → same_text one.old args ≡ b → is_odd one.old ≡ true → is_odd args ≡ false →
-    new_or rest args ≡ args → new_or (cond b (Some one) rest) args ≡ args
-found_by true one args rest e odd plain k = absurd (false≢true (sym plain ∙ sym (ap is_odd (same-is one.old args e)) ∙ odd))
+odd_new : (names : Naming) (name : List ℕ) (new : Option (List ℕ)) → is_odd name ≡ true → all_odd names.found ≡ true → all_odd (with_new names name new).found ≡ true
+odd_new names name None odd h = h
+odd_new names name (Some new) odd h = odd_first (is_named names.found name) names.found (name, new) odd h
+
+odd_name : (b : Bool) (names : Naming) (name : List ℕ) → lacks_name names.found name ≡ b → all_odd names.found ≡ true →
+    all_odd (cond b (with_new names name (fresh names.taken name)) names).found ≡ true
+odd_name true names name e h = odd_new names name (fresh names.taken name) (and_parts _ _ e).0 h
+odd_name false names name e h = h
+
+odd_names : (names : Naming) (more : List (List ℕ)) → all_odd names.found ≡ true → all_odd (fold with_name names more).found ≡ true
+odd_names names [] h = h
+odd_names names (name ∷ more) h = odd_names (with_name names name) more (odd_name (lacks_name names.found name) names name refl h)
+
+found_by : (b : Bool) (one : Entry) (args : List ℕ) (rest : Option (List ℕ)) → same_text args one.0 ≡ b → is_odd one.0 ≡ true → is_odd args ≡ false →
+    unwrap_or rest args ≡ args → unwrap_or (cond b (Some one.1) rest) args ≡ args
+found_by true one args rest e odd plain k = absurd (false≢true (sym plain ∙ ap is_odd (same-is args one.0 e) ∙ odd))
 found_by false one args rest e odd plain k = k
 
-plain_same : (names : List NamePair) (args : List ℕ) → list_all (λ one. is_odd one.old) names ≡ true → is_odd args ≡ false → new_name names args ≡ args
+plain_same : (names : List Entry) (args : List ℕ) → all_odd names ≡ true → is_odd args ≡ false → new_name names args ≡ args
 plain_same [] args h plain = refl
 plain_same (one ∷ names) args h plain =
-    let parts = and_parts (is_odd one.old) (list_all (λ one. is_odd one.old) names) h in
-    found_by (same_text one.old args) one args (find_name names args) refl parts.0 plain (plain_same names args parts.1 plain)
+    let parts = and_parts (is_odd one.0) (all_odd names) h in
+    found_by (same_text args one.0) one args (text_for names args) refl parts.0 plain (plain_same names args parts.1 plain)
 
 pub renamed_plain : (all : List (List ℕ)) (args : List ℕ) → is_odd args ≡ false → new_name (renamed all) args ≡ args
-renamed_plain all args plain = plain_same (renamed all) args (all_odd (record { taken = all; found = [] }) all refl) plain
+renamed_plain all args plain = plain_same (renamed all) args (odd_names (so_far (fold put [] all) []) all refl) plain
 
-pub sections_alone : (edition : Edition) (tools : List Tool) (all : List (List ℕ)) (tree : Tree) → tops_told edition tools tree ≡ [] → tree_of (tops edition tools (renamed all) tree) ≡ tree
+pub sections_alone : (edition : Edition) (tools : List Entry) (all : List (List ℕ)) (tree : Tree) → tops_told edition tools tree ≡ [] → tree_of (tops edition tools (renamed all) tree) ≡ tree
 sections_alone edition tools all tree h = tops_alone edition tools (renamed all) (renamed_plain all) tree h

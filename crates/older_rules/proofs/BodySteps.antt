@@ -6,12 +6,12 @@ use Rattle.cabal_lexer.specs.Tree.{in_front, tree_of}
 use Rattle.cabal_lexer.proofs.ElementTrees.{field_in_front, section_in_front, added}
 use Rattle.older_rules.specs.declared.change.Change.{Change}
 use Rattle.older_rules.specs.declared.edition.Edition.{Edition}
-use Rattle.older_rules.specs.declared.tools.Tool.{Tool}
 use Rattle.older_rules.specs.declared.body.FieldRule.{FieldRule}
 use Rattle.older_rules.specs.declared.body.Place.{Place}
+use Rattle.older_rules.specs.NameMaps.{Entry}
 use Rattle.older_rules.specs.Bodies.{field_rule, place_of, chained_after, is_opening, field_kept, field_told, section_kept, section_told, kept, told, Keeps, Tells}
 
-module _ (edition : Edition) (tools : List Tool) (chained : Bool) where
+module _ (edition : Edition) (tools : List Entry) (chained : Bool) where
   pub field_keeps : {item : Element} (line : ℕ) (name : List ℕ) (values : List (List ℕ)) {rule : FieldRule} {after : Bool} (old new : List Element) →
       item ≡ Field line name values → rule ≡ field_rule edition name → after ≡ chained_after rule chained → new ≡ old ++ field_kept tools rule line name values →
       Keeps edition tools item chained after old new

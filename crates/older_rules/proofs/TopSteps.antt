@@ -7,12 +7,11 @@ use Rattle.cabal_lexer.proofs.ElementTrees.{field_in_front, section_in_front, ad
 use Rattle.older_rules.specs.declared.change.Change.{Change}
 use Rattle.older_rules.specs.declared.change.Change.TheVariants.{Dropped}
 use Rattle.older_rules.specs.declared.edition.Edition.{Edition}
-use Rattle.older_rules.specs.declared.names.NamePair.{NamePair}
-use Rattle.older_rules.specs.declared.tools.Tool.{Tool}
 use Rattle.older_rules.specs.declared.tops.TopRule.{TopRule}
+use Rattle.older_rules.specs.NameMaps.{Entry}
 use Rattle.older_rules.specs.Tops.{top_rule, top_kept, top_told, tops, tops_told, KeepsTop, TellsTop}
 
-module _ (edition : Edition) (tools : List Tool) (names : List NamePair) where
+module _ (edition : Edition) (tools : List Entry) (names : List Entry) where
   pub field_keeps : {item : Element} (line : ℕ) (name : List ℕ) (values : List (List ℕ)) (old : List Element) → item ≡ Field line name values →
       KeepsTop edition tools names item old old
   unfolding tops
@@ -30,7 +29,7 @@ module _ (edition : Edition) (tools : List Tool) (names : List NamePair) where
       ∙ ap (λ t. old ++ tops edition tools names t) (sym (section_in_front line name args items behind))
       ∙ ap (λ i. old ++ tops edition tools names (in_front i behind)) (sym is)
 
-module _ (edition : Edition) (tools : List Tool) where
+module _ (edition : Edition) (tools : List Entry) where
   pub field_tells : {item : Element} (line : ℕ) (name : List ℕ) (values : List (List ℕ)) (old new : List Change) → item ≡ Field line name values →
       new ≡ old ++ Dropped line ∷ [] → TellsTop edition tools item old new
   unfolding tops_told

@@ -9,12 +9,12 @@ use Rattle.older_rules.specs.declared.edition.Edition.{Edition}
 use Rattle.older_rules.specs.declared.edition.Edition.TheVariants.{V2_2, V2_4}
 use Rattle.older_rules.specs.declared.change.Change.{Change}
 use Rattle.older_rules.specs.declared.change.Change.TheVariants as change
-use Rattle.older_rules.specs.declared.tools.Tool.{Tool}
 use Rattle.older_rules.specs.declared.body.FieldRule.{FieldRule}
 use Rattle.older_rules.specs.declared.body.FieldRule.TheVariants as rule
 use Rattle.older_rules.specs.declared.body.Place.{Place}
 use Rattle.older_rules.specs.declared.body.Place.TheVariants as place
 use Rattle.older_rules.specs.Editions.{before}
+use Rattle.older_rules.specs.NameMaps.{Entry}
 use Rattle.older_rules.specs.Tools.{tool_texts, tools_told, commas}
 
 -- Before 2.2 Cabal passes over imports. Before 2.4 `build-tools` is read as `build-tool-depends`.
@@ -53,12 +53,12 @@ abbrev pub tool_field : ℕ → List (List ℕ) → List Element
 tool_field line [] = []
 tool_field line (text ∷ texts) = Field line (codes "build-tool-depends") (commas (text ∷ texts) ∷ []) ∷ []
 
-abbrev pub field_kept : List Tool → FieldRule → ℕ → List ℕ → List (List ℕ) → List Element
+abbrev pub field_kept : List Entry → FieldRule → ℕ → List ℕ → List (List ℕ) → List Element
 field_kept tools rule.Dropped line name values = []
 field_kept tools rule.Tools line name values = tool_field line (tool_texts tools (joined_text values))
 field_kept tools rule.Kept line name values = Field line name values ∷ []
 
-abbrev pub field_told : List Tool → FieldRule → ℕ → List (List ℕ) → List Change
+abbrev pub field_told : List Entry → FieldRule → ℕ → List (List ℕ) → List Change
 field_told tools rule.Dropped line values = change.Dropped line ∷ []
 field_told tools rule.Tools line values = change.Tools line ∷ tools_told tools line (joined_text values)
 field_told tools rule.Kept line values = []
@@ -74,7 +74,7 @@ section_told place.Closes line inner = inner
 section_told place.Dropped line inner = change.Dropped line ∷ []
 
 -- the items of a section, rewritten; `chained`: an `else` may follow
-unfoldable pub kept : Edition → List Tool → Bool → Tree → List Element
+unfoldable pub kept : Edition → List Entry → Bool → Tree → List Element
 kept edition tools chained end = []
 kept edition tools chained (field line name values behind) =
     field_kept tools (field_rule edition name) line name values ++ kept edition tools (chained_after (field_rule edition name) chained) behind
@@ -83,7 +83,7 @@ kept edition tools chained (section line name args items behind) =
     ++ kept edition tools (is_opening (place_of edition chained name)) behind
 
 -- the changes to them
-unfoldable pub told : Edition → List Tool → Bool → Tree → List Change
+unfoldable pub told : Edition → List Entry → Bool → Tree → List Change
 told edition tools chained end = []
 told edition tools chained (field line name values behind) =
     field_told tools (field_rule edition name) line values ++ told edition tools (chained_after (field_rule edition name) chained) behind
@@ -92,8 +92,8 @@ told edition tools chained (section line name args items behind) =
     ++ told edition tools (is_opening (place_of edition chained name)) behind
 
 -- one item: its rewriting and those of the items after it are those of all
-abbrev pub Keeps : Edition → List Tool → Element → Bool → Bool → List Element → List Element → Type 0
+abbrev pub Keeps : Edition → List Entry → Element → Bool → Bool → List Element → List Element → Type 0
 Keeps edition tools item chained after old new = (behind : Tree) → new ++ kept edition tools after behind ≡ old ++ kept edition tools chained (in_front item behind)
 
-abbrev pub Tells : Edition → List Tool → Element → Bool → Bool → List Change → List Change → Type 0
+abbrev pub Tells : Edition → List Entry → Element → Bool → Bool → List Change → List Change → Type 0
 Tells edition tools item chained after old new = (behind : Tree) → new ++ told edition tools after behind ≡ old ++ told edition tools chained (in_front item behind)

@@ -28,7 +28,7 @@ not_exact = refl
 known_tool : depended [] (codes "happy >=1.19") ≡ Some (codes "happy:happy >=1.19")
 known_tool = refl
 
-own_tool : depended (record { name = codes "alex"; full = codes "foo:alex" } ∷ []) (codes "alex") ≡ Some (codes "foo:alex")
+own_tool : depended ((codes "alex", codes "foo:alex") ∷ []) (codes "alex") ≡ Some (codes "foo:alex")
 own_tool = refl
 
 unknown_tool : depended [] (codes "gcc") ≡ None
@@ -42,8 +42,14 @@ quoted : plain_name (codes "\"foo bar\"") ≡ codes "foo_bar"
 quoted = refl
 
 -- the plain name of the first is that of the second
-made_unique : renamed (codes "a.b" ∷ codes "a_b" ∷ []) ≡ record { old = codes "a.b"; new = codes "a_b_" } ∷ []
+made_unique : renamed (codes "a.b" ∷ codes "a_b" ∷ []) ≡ (codes "a.b", codes "a_b_") ∷ []
 made_unique = refl
+
+-- the sixteen names of this one are taken
+none_free : renamed (codes "!" ∷ codes "_" ∷ codes "__" ∷ codes "___" ∷ codes "____" ∷ codes "_____" ∷ codes "______" ∷ codes "_______" ∷ codes "________"
+    ∷ codes "_________" ∷ codes "__________" ∷ codes "___________" ∷ codes "____________" ∷ codes "_____________" ∷ codes "______________" ∷ codes "_______________"
+    ∷ codes "________________" ∷ []) ≡ []
+none_free = refl
 
 -- `elif` is read from 2.2 on
 elif_before : place_of V2_0 true (codes "elif") ≡ Dropped

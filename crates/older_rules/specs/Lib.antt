@@ -1,6 +1,7 @@
 pub mod Editions
 pub mod Items
 pub mod Headers
+pub mod NameMaps
 pub mod Tools
 pub mod Bodies
 pub mod Names

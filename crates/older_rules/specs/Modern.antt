@@ -12,17 +12,16 @@ use Rattle.older_rules.specs.declared.edition.Edition.{Edition}
 use Rattle.older_rules.specs.declared.edition.Edition.TheVariants.{V1_24, V2_4}
 use Rattle.older_rules.specs.declared.header.Header.{Header}
 use Rattle.older_rules.specs.declared.modern.Modern.{Modern}
-use Rattle.older_rules.specs.declared.names.NamePair.{NamePair}
 use Rattle.older_rules.specs.declared.refused.At.{At}
-use Rattle.older_rules.specs.declared.tools.Tool.{Tool}
 use Rattle.older_rules.specs.Editions.{before, header_text, setup_depends}
 use Rattle.older_rules.specs.Flat.{flat, moves}
 use Rattle.older_rules.specs.Headers.{IsHeader}
 use Rattle.older_rules.specs.Heads.{head_kept, head_told, header_said, header_told, is_custom, type_line, type_said, type_told}
 use Rattle.older_rules.specs.Items.{is_field, last_named, leading, text_of}
+use Rattle.older_rules.specs.NameMaps.{Entry, firsts}
 use Rattle.older_rules.specs.Names.{renamed}
 use Rattle.older_rules.specs.Refused.{first_fault, or_else}
-use Rattle.older_rules.specs.Tops.{component_name, executable_tool, is_setup, tops, tops_told}
+use Rattle.older_rules.specs.Tops.{component_name, executable_tool, is_setup, name_fault, tops, tops_told}
 
 abbrev pub text_or : Option Element → List ℕ
 text_or None = []
@@ -32,13 +31,13 @@ text_or (Some item) = text_of item
 abbrev pub owner_of : List Element → List ℕ
 owner_of heads = text_or (last_named (codes "name") heads)
 
--- the components of a file that are written under another name
-abbrev pub names_of : List Element → List NamePair
+-- the new names of a file's components
+abbrev pub names_of : List Element → List Entry
 names_of rest = renamed (flat_map component_name rest)
 
 -- its own executables
-abbrev pub tools_of : List Element → List Element → List Tool
-tools_of heads rest = flat_map (executable_tool (owner_of heads) (names_of rest)) rest
+abbrev pub tools_of : List Element → List Element → List Entry
+tools_of heads rest = firsts (flat_map (executable_tool (owner_of heads) (names_of rest)) rest)
 
 -- the sections of a file, rewritten, and the changes to them
 abbrev pub sections : Edition → List Element → List Element → List Element
@@ -86,7 +85,8 @@ abbrev pub fault_of : Edition → Bool → ℕ → List Element → Option At
 fault_of edition lacks line made = or_else (setup_fault edition lacks line) (first_fault edition (tree_of made))
 
 abbrev pub fault : Header → List Element → List Element → Option At
-fault header heads rest = fault_of header.edition (lacks_setup header.edition heads rest) (type_line header heads) (sections header.edition heads rest)
+fault header heads rest =
+    or_else (name_fault (names_of rest) rest) (fault_of header.edition (lacks_setup header.edition heads rest) (type_line header heads) (sections header.edition heads rest))
 
 abbrev pub unless_fault : Option At → Modern → Result Modern (ℕ × Cause)
 unless_fault None modern = Ok modern

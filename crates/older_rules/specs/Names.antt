@@ -1,13 +1,13 @@
 -- The names of components. This program reads letters, digits, `-` and `_`; Cabal reads any name.
-use Rattle.std.specs.Prelude.{ℕ, zero, suc, Bool, not, ◌==◌, if◌then◌else◌, List, [], ◌∷◌, ◌++◌, map, filter, fold, find, length, Option, Some, None}
+use Rattle.std.specs.Prelude.{ℕ, zero, suc, Bool, not, ◌&&◌, ◌==◌, if◌then◌else◌, List, [], ◌∷◌, ◌++◌, map, filter, fold, find, Option, Some, None, unwrap_or}
 use Rattle.std.specs.List.{list_all, list_any}
+use Rattle.indexmap.specs.IndexSet.{insert_key}
 use Rattle.plan_types.specs.Bytes.{same_text}
 use Rattle.plan_types.specs.Name.{is_component_byte}
-use Rattle.older_rules.specs.declared.names.NamePair.{NamePair}
-use Rattle.older_rules.specs.declared.names.Naming.{Naming}
+use Rattle.older_rules.specs.NameMaps.{Entry, is_named, text_for, with_first}
 
 abbrev pub has : List (List ℕ) → List ℕ → Bool
-has taken name = list_any (λ text. same_text text name) taken
+has names name = list_any (same_text name) names
 
 -- a name with other bytes
 abbrev pub is_odd : List ℕ → Bool
@@ -30,34 +30,46 @@ or_line (b ∷ bs) = b ∷ bs
 abbrev pub plain_name : List ℕ → List ℕ
 plain_name name = or_line (plain_bytes name)
 
--- the name with as many `_` as make it new, at most this number
-abbrev pub free : ℕ → List (List ℕ) → List ℕ → List ℕ
-free zero taken name = name
-free (suc n) taken name = if has taken name then free n taken (name ++ 95 ∷ []) else name
+-- this many names: the first, and each of the others with one more `_`
+abbrev pub candidates : ℕ → List ℕ → List (List ℕ)
+candidates zero name = []
+candidates (suc n) name = name ∷ candidates n (name ++ 95 ∷ [])
 
-abbrev pub fresh : List (List ℕ) → List ℕ → List ℕ
-fresh taken name = free (length taken) taken (plain_name name)
+-- the first of these names that is free
+abbrev pub first_free : List (List ℕ) → List (List ℕ) → Option (List ℕ)
+first_free taken names = find (λ name. not (has taken name)) names
 
-abbrev pub with_odd : Naming → List ℕ → Naming
-with_odd naming name = record {
-  taken = naming.taken ++ fresh naming.taken name ∷ [];
-  found = naming.found ++ record { old = name; new = fresh naming.taken name } ∷ [];
-}
+-- the new name of a component: the first of 16 that is free
+abbrev pub fresh : List (List ℕ) → List ℕ → Option (List ℕ)
+fresh taken name = first_free taken (candidates 16 (plain_name name))
+
+-- the set of names with one more
+abbrev pub put : List (List ℕ) → List ℕ → List (List ℕ)
+put = insert_key same_text
+
+-- the names that are taken, and the new names
+pub record Naming : Type 0 where
+  pub taken : List (List ℕ)
+  pub found : List Entry
+
+abbrev pub so_far : List (List ℕ) → List Entry → Naming
+so_far taken found = record { taken = taken; found = found }
+
+abbrev pub with_new : Naming → List ℕ → Option (List ℕ) → Naming
+with_new names name None = names
+with_new names name (Some new) = so_far (put names.taken new) (with_first names.found (name, new))
+
+-- a name that this program can't read, and that has no new one
+abbrev pub lacks_name : List Entry → List ℕ → Bool
+lacks_name found name = is_odd name && not (is_named found name)
 
 abbrev pub with_name : Naming → List ℕ → Naming
-with_name naming name = if is_odd name then with_odd naming name else naming
+with_name names name = if lacks_name names.found name then with_new names name (fresh names.taken name) else names
 
--- the names of these components that are written otherwise; all names are taken from the first
-abbrev pub renamed : List (List ℕ) → List NamePair
-renamed names = (fold with_name (record { taken = names; found = [] }) names).found
-
-abbrev pub find_name : List NamePair → List ℕ → Option NamePair
-find_name names name = find (λ one. same_text one.old name) names
-
-abbrev pub new_or : Option NamePair → List ℕ → List ℕ
-new_or (Some one) name = one.new
-new_or None name = name
+-- the new names of these components; all names are taken from the first
+abbrev pub renamed : List (List ℕ) → List Entry
+renamed names = (fold with_name (so_far (fold put [] names) []) names).found
 
 -- the name under which a component is written
-abbrev pub new_name : List NamePair → List ℕ → List ℕ
-new_name names name = new_or (find_name names name) name
+abbrev pub new_name : List Entry → List ℕ → List ℕ
+new_name names name = unwrap_or (text_for names name) name

@@ -1,12 +1,12 @@
 -- Tools of older files. Sources: Cabal 3.4.1, LegacyExeDependency and desugarBuildTool.
-use Rattle.std.specs.Prelude.{ℕ, Bool, true, false, ◌||◌, ◌==◌, if◌then◌else◌, List, [], ◌∷◌, ◌++◌, take, drop, flat_map, find, codes, Option, Some, None}
+use Rattle.std.specs.Prelude.{ℕ, Bool, true, false, ◌||◌, ◌==◌, if◌then◌else◌, List, [], ◌∷◌, ◌++◌, take, drop, flat_map, codes, Option, Some, None}
 use Rattle.std.specs.List.{prefix_len, slice_split}
 use Rattle.plan_types.specs.Bytes.{same_text}
 use Rattle.plan_types.specs.Name.{is_component_byte}
 use Rattle.cabal_lexer.specs.Lines.{trim}
 use Rattle.older_rules.specs.declared.change.Change.{Change}
 use Rattle.older_rules.specs.declared.change.Change.TheVariants.{UnknownTool}
-use Rattle.older_rules.specs.declared.tools.Tool.{Tool}
+use Rattle.older_rules.specs.NameMaps.{Entry, text_for}
 
 -- a byte of a tool's name
 abbrev pub is_tool_byte : ℕ → Bool
@@ -29,17 +29,13 @@ is_known name =
 abbrev pub known : List ℕ → Option (List ℕ)
 known name = if is_known name then Some (name ++ 58 ∷ name) else None
 
--- the own executable with this name
-abbrev pub own_tool : List Tool → List ℕ → Option Tool
-own_tool own name = find (λ tool. same_text tool.name name) own
-
-abbrev pub own_or_known : Option Tool → List ℕ → Option (List ℕ)
-own_or_known (Some tool) name = Some tool.full
+abbrev pub own_or_known : Option (List ℕ) → List ℕ → Option (List ℕ)
+own_or_known (Some full) name = Some full
 own_or_known None name = known name
 
--- the tool of a name, with its package; an own one comes first
-abbrev pub full_name : List Tool → List ℕ → Option (List ℕ)
-full_name own name = own_or_known (own_tool own name) name
+-- the tool of a name, with its package; the package's own executables come first
+abbrev pub full_name : List Entry → List ℕ → Option (List ℕ)
+full_name own name = own_or_known (text_for own name) name
 
 abbrev pub with_rest : Option (List ℕ) → List ℕ → Option (List ℕ)
 with_rest None rest = None
@@ -47,7 +43,7 @@ with_rest (Some full) rest = Some (full ++ rest)
 
 -- The entry of `build-tool-depends` for an entry of `build-tools`, a name and a range; none for a tool that Cabal
 -- doesn't know.
-abbrev pub depended : List Tool → List ℕ → Option (List ℕ)
+abbrev pub depended : List Entry → List ℕ → Option (List ℕ)
 depended own entry = with_rest (full_name own (take (prefix_len is_tool_byte entry) entry)) (drop (prefix_len is_tool_byte entry) entry)
 
 abbrev pub some_text : Option (List ℕ) → List (List ℕ)
@@ -59,26 +55,26 @@ unknown_told line None = UnknownTool line ∷ []
 unknown_told line (Some text) = []
 
 -- an empty entry is none
-abbrev pub entry_tool : List Tool → List ℕ → List (List ℕ)
+abbrev pub entry_tool : List Entry → List ℕ → List (List ℕ)
 entry_tool own [] = []
 entry_tool own (b ∷ bs) = some_text (depended own (b ∷ bs))
 
-abbrev pub entry_told : List Tool → ℕ → List ℕ → List Change
+abbrev pub entry_told : List Entry → ℕ → List ℕ → List Change
 entry_told own line [] = []
 entry_told own line (b ∷ bs) = unknown_told line (depended own (b ∷ bs))
 
-abbrev pub tool_of : List Tool → List ℕ → List (List ℕ)
+abbrev pub tool_of : List Entry → List ℕ → List (List ℕ)
 tool_of own piece = entry_tool own (trim piece)
 
-abbrev pub tool_told : List Tool → ℕ → List ℕ → List Change
+abbrev pub tool_told : List Entry → ℕ → List ℕ → List Change
 tool_told own line piece = entry_told own line (trim piece)
 
 -- the entries for those of a text
-abbrev pub tool_texts : List Tool → List ℕ → List (List ℕ)
+abbrev pub tool_texts : List Entry → List ℕ → List (List ℕ)
 tool_texts own text = flat_map (tool_of own) (slice_split (λ b. b == 44) text)
 
 -- the tools that are left out
-abbrev pub tools_told : List Tool → ℕ → List ℕ → List Change
+abbrev pub tools_told : List Entry → ℕ → List ℕ → List Change
 tools_told own line text = flat_map (tool_told own line) (slice_split (λ b. b == 44) text)
 
 -- texts joined by commas

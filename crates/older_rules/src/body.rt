@@ -7,7 +7,8 @@ ghost use Rattle.older_rules.specs.Bodies.{field_rule, place_of, misplaced, chai
 
 use crate::change::Change;
 use crate::edition::Edition;
-use crate::tools::{Tool, commas, tool_texts};
+use crate::name_map::NameMap;
+use crate::tools::{commas, tool_texts};
 use plan_types::{Element, List, NoMemory, Text, joined_text};
 use std::alloc::Global;
 
@@ -15,7 +16,7 @@ use std::alloc::Global;
 #[derive(Clone, Copy)]
 pub struct Inside<'a> {
     pub edition: Edition,
-    pub tools: &'a [Tool],
+    pub tools: &'a NameMap,
 }
 
 /// What becomes of a field.
@@ -105,8 +106,8 @@ pub fn rewritten(
     items: &[Element],
     changes: &mut List<Change>,
 ) -> Result<List<Element>, NoMemory>
-    ensures items { IfOk result (λ out. out ≡ kept inside.now.edition inside.now.tools.now false (tree_of items.now)) }
-    ensures changes { OnOk result (changes.new ≡ changes.old ++ told inside.now.edition inside.now.tools.now false (tree_of items.now)) }
+    ensures items { IfOk result (λ out. out ≡ kept inside.now.edition inside.now.tools.now.entries false (tree_of items.now)) }
+    ensures changes { OnOk result (changes.new ≡ changes.old ++ told inside.now.edition inside.now.tools.now.entries false (tree_of items.now)) }
 {
     let mut out = List::new(alloc);
     let mut chained = false;
@@ -126,8 +127,8 @@ fn rewrite(
     out: &mut List<Element>,
     changes: &mut List<Change>,
 ) -> Result<bool, NoMemory>
-    ensures items { IfOk result (λ after. Keeps inside.now.edition inside.now.tools.now item.now chained after out.old out.new) }
-    ensures changes { IfOk result (λ after. Tells inside.now.edition inside.now.tools.now item.now chained after changes.old changes.new) }
+    ensures items { IfOk result (λ after. Keeps inside.now.edition inside.now.tools.now.entries item.now chained after out.old out.new) }
+    ensures changes { IfOk result (λ after. Tells inside.now.edition inside.now.tools.now.entries item.now chained after changes.old changes.new) }
 {
     match item {
         Element::Field { line, name, values } => {
@@ -181,7 +182,7 @@ pub fn push_section(
 /// Pushes what becomes of a field.
 fn push_field(
     alloc: Global,
-    tools: &[Tool],
+    tools: &NameMap,
     rule: FieldRule,
     line: u32,
     name: &Text,
@@ -189,8 +190,8 @@ fn push_field(
     out: &mut List<Element>,
     changes: &mut List<Change>,
 ) -> Result<(), NoMemory>
-    ensures items { OnOk result (out.new ≡ out.old ++ field_kept tools.now rule line name.now values.now) }
-    ensures changes { OnOk result (changes.new ≡ changes.old ++ field_told tools.now rule line values.now) }
+    ensures items { OnOk result (out.new ≡ out.old ++ field_kept tools.now.entries rule line name.now values.now) }
+    ensures changes { OnOk result (changes.new ≡ changes.old ++ field_told tools.now.entries rule line values.now) }
 {
     match rule {
         FieldRule::Dropped => changes.push(Change::Dropped { line }),

@@ -11,6 +11,7 @@ mod heads;
 mod item;
 mod laws;
 mod modern;
+mod name_map;
 mod names;
 mod refused;
 #[cfg(test)]

@@ -3,7 +3,8 @@
 ghost use Rattle.std.specs.Prelude.{◌≡◌, ◌++◌, IfOk, IfErr, OnOk};
 ghost use Rattle.std.specs.declared.result.Result.TheVariants.{Ok, Err};
 ghost use Rattle.plan_types.specs.Refusal.{RefusesAt};
-ghost use Rattle.older_rules.specs.Modern.{owner_of, lacks_setup, setup_fault, is_implied, setup_items, setup_section, setup_said, setup_told, sections, sections_told, all_items, all_changes, fault_of, file, sectioned_told, IsFile, IsModern};
+ghost use Rattle.older_rules.specs.Refused.{or_else};
+ghost use Rattle.older_rules.specs.Modern.{owner_of, names_of, tools_of, lacks_setup, setup_fault, is_implied, setup_items, setup_section, setup_said, setup_told, sections, sections_told, all_items, all_changes, fault_of, file, sectioned_told, IsFile, IsModern};
 
 use crate::body::push_word;
 use crate::change::Change;
@@ -12,9 +13,10 @@ use crate::flat::{all_fields, any_moves, flat, push_section};
 use crate::header::{Header, header_of};
 use crate::heads::{is_custom, push_header, push_heads, push_type, type_line};
 use crate::item::{last_named, leading, text_of};
+use crate::name_map::NameMap;
 use crate::names::renamed;
 use crate::refused::{At, first_fault};
-use crate::tops::{Rewriting, component_names, has_setup, own_tools, push_tops};
+use crate::tops::{Rewriting, component_names, has_setup, name_fault, own_tools, push_tops};
 use plan_types::{Cause, Element, Fault, List, NoMemory, Text};
 use std::alloc::Global;
 
@@ -116,25 +118,46 @@ fn setup_items(alloc: Global, header: Header) -> Result<List<Element>, NoMemory>
     Ok(items)
 }
 
+/// The new names of a file's components.
+fn names_of(alloc: Global, rest: &[Element]) -> Result<NameMap, NoMemory>
+    ensures { IfOk result (λ names. names.entries ≡ names_of rest.now) }
+{
+    let all = component_names(alloc, rest)?;
+    renamed(alloc, all.as_slice())
+}
+
+/// The package's own executables.
+fn tools_of(
+    alloc: Global,
+    names: &NameMap,
+    heads: &[Element],
+    rest: &[Element],
+) -> Result<NameMap, NoMemory>
+    requires { names.now.entries ≡ names_of rest.now }
+    ensures { IfOk result (λ tools. tools.entries ≡ tools_of heads.now rest.now) }
+{
+    let owner = owner_of(alloc, heads)?;
+    own_tools(alloc, &owner, names, rest)
+}
+
 /// The sections of a file, rewritten.
 fn sections(
     alloc: Global,
     edition: Edition,
+    names: &NameMap,
     heads: &[Element],
     rest: &[Element],
     changes: &mut List<Change>,
 ) -> Result<List<Element>, NoMemory>
+    requires { names.now.entries ≡ names_of rest.now }
     ensures items { IfOk result (λ out. out ≡ sections edition heads.now rest.now) }
     ensures changes { OnOk result (changes.new ≡ changes.old ++ sections_told edition heads.now rest.now) }
 {
-    let all = component_names(alloc, rest)?;
-    let names = renamed(alloc, all.as_slice())?;
-    let owner = owner_of(alloc, heads)?;
-    let tools = own_tools(alloc, &owner, names.as_slice(), rest)?;
+    let tools = tools_of(alloc, names, heads, rest)?;
     let rewriting = Rewriting {
         edition,
-        tools: tools.as_slice(),
-        names: names.as_slice(),
+        tools: &tools,
+        names,
     };
     let mut out = List::new(alloc);
     push_tops(alloc, &rewriting, rest, &mut out, changes)?;
@@ -171,12 +194,16 @@ fn joined(
 fn fault(
     alloc: Global,
     header: Header,
+    named: Option<At>,
     lacks: bool,
     line: u32,
     sections: &[Element],
 ) -> Result<Option<At>, NoMemory>
-    ensures { IfOk result (λ found. found ≡ fault_of header.edition lacks line sections.now) }
+    ensures { IfOk result (λ found. found ≡ or_else named (fault_of header.edition lacks line sections.now)) }
 {
+    if named.is_some() {
+        return Ok(named);
+    }
     let setup = setup_fault(header, lacks, line);
     if setup.is_some() {
         return Ok(setup);
@@ -195,11 +222,13 @@ fn file(
     ensures modern { IfOk result (λ modern. file told header heads.now rest.now ≡ Ok modern) }
     ensures fault { IfErr result (RefusesAt (λ line cause. file told header heads.now rest.now ≡ Err (line, cause))) }
 {
+    let names = names_of(alloc, rest)?;
+    let named = name_fault(&names, rest);
     let lacks = lacks_setup(alloc, header.edition, heads, rest)?;
     let mut more = List::new(alloc);
-    let made = sections(alloc, header.edition, heads, rest, &mut more)?;
+    let made = sections(alloc, header.edition, &names, heads, rest, &mut more)?;
     let line = type_line(header, heads);
-    match fault(alloc, header, lacks, line, made.as_slice())? {
+    match fault(alloc, header, named, lacks, line, made.as_slice())? {
         Some(at) => Err(Fault::At {
             line: at.line,
             cause: at.cause,

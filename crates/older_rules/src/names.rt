@@ -1,29 +1,18 @@
 // The names of components.
 
-ghost use Rattle.std.specs.Prelude.{◌≡◌, length, IfOk, OnOk};
+ghost use Rattle.std.specs.Prelude.{◌≡◌, [], fold, IfOk, OnOk};
 ghost use Rattle.std.specs.List.{list_all};
-ghost use Rattle.std.specs.Option.{option_copied};
 ghost use Rattle.plan_types.specs.Name.{is_component_byte};
-ghost use Rattle.older_rules.specs.Names.{has, is_odd, is_quote, plain_byte, plain_bytes, plain_name, free, with_odd, with_name, renamed, find_name, new_name};
+ghost use Rattle.older_rules.specs.Names.{is_odd, is_quote, plain_byte, plain_bytes, plain_name, candidates, first_free, fresh, put, so_far, with_new, lacks_name, with_name, renamed, new_name};
 
-use crate::body::copied;
+use crate::name_map::{NameMap, put_first};
 use entry_text::is_component_byte;
-use plan_types::{List, NoMemory, Text};
+use indexmap::{IndexMap, IndexSet};
+use plan_types::{NoMemory, Text};
 use std::alloc::{AllocError, Global};
 
-/// A component's name that is written otherwise.
-#[derive(Drop)]
-pub struct NamePair {
-    pub old: Text,
-    pub new: Text,
-}
-
-/// The names that are taken, and those that are written otherwise.
-#[derive(Drop)]
-pub struct Naming {
-    taken: List<Text>,
-    found: List<NamePair>,
-}
+/// The most names that are tried for a component.
+const TRIES: usize = 16;
 
 /// Whether a name has other characters than letters, digits, `-` and `_`.
 pub fn is_odd(name: &[u8]) -> bool
@@ -36,12 +25,6 @@ fn has_plain_bytes(name: &[u8]) -> bool
     ensures { result ≡ list_all is_component_byte name.now }
 {
     name.iter().all(|byte| is_component_byte(*byte))
-}
-
-fn has(taken: &[Text], name: &str) -> bool
-    ensures { result ≡ has taken.now name.now }
-{
-    taken.iter().any(|text| text.as_str() == name)
 }
 
 fn is_quote(byte: u8) -> bool
@@ -76,71 +59,109 @@ fn plain_name(alloc: Global, name: &[u8]) -> Result<Text, NoMemory>
     Text::from_ascii(alloc, bytes.as_slice())
 }
 
-/// The name with as many `_` as make it new.
-fn free(taken: &[Text], name: Text) -> Result<Text, NoMemory>
-    ensures { IfOk result (λ text. text ≡ free (length taken.now) taken.now name) }
+/// The first free one of this name and the same with more `_`, if it is among the first 16.
+fn first_free(taken: &IndexSet<Text>, name: Text) -> Result<Option<Text>, NoMemory>
+    ensures { IfOk result (λ found. found ≡ first_free taken.now.keys (candidates 16 name)) }
 {
     let mut name = name;
-    let mut left = taken.len();
+    let mut left = TRIES;
     while left > 0 {
-        if !has(taken, name.as_str()) {
-            return Ok(name);
+        if !taken.contains(&name) {
+            return Ok(Some(name));
         }
         name.push_str("_")?;
         left -= 1;
     }
-    Ok(name)
+    Ok(None)
 }
 
-impl Naming {
-    fn add(&mut self, alloc: Global, name: &Text) -> Result<(), NoMemory>
-        ensures { OnOk result (self.new ≡ with_name self.old name.now) }
-    {
-        if !is_odd(name.as_bytes()) {
-            return Ok(());
-        }
-        self.add_odd(alloc, name)
-    }
-
-    fn add_odd(&mut self, alloc: Global, name: &Text) -> Result<(), NoMemory>
-        ensures { OnOk result (self.new ≡ with_odd self.old name.now) }
-    {
-        let plain = plain_name(alloc, name.as_bytes())?;
-        let new = free(self.taken.as_slice(), plain)?;
-        let taken = new.copy()?;
-        let old = name.copy()?;
-        self.taken.push(taken)?;
-        self.found.push(NamePair { old, new })
-    }
-}
-
-/// The names of these that are written otherwise.
-pub fn renamed(alloc: Global, names: &[Text]) -> Result<List<NamePair>, NoMemory>
-    ensures { IfOk result (λ found. found ≡ renamed names.now) }
+/// The new name of a component.
+fn fresh(alloc: Global, taken: &IndexSet<Text>, name: &Text) -> Result<Option<Text>, NoMemory>
+    ensures { IfOk result (λ found. found ≡ fresh taken.now.keys name.now) }
 {
-    let mut naming = Naming {
-        taken: copied(alloc, names)?,
-        found: List::new(alloc),
-    };
+    let plain = plain_name(alloc, name.as_bytes())?;
+    first_free(taken, plain)
+}
+
+fn put(names: &mut IndexSet<Text>, name: &Text) -> Result<(), NoMemory>
+    ensures { OnOk result (names.new.keys ≡ put names.old.keys name.now) }
+{
+    let name = name.copy()?;
+    names.insert(name)?;
+    Ok(())
+}
+
+/// The set of these names.
+fn set_of(alloc: Global, names: &[Text]) -> Result<IndexSet<Text>, NoMemory>
+    ensures { IfOk result (λ set. set.keys ≡ fold put [] names.now) }
+{
+    let mut set = IndexSet::new(alloc);
     for name in names {
-        naming.add(alloc, name)?;
+        put(&mut set, name)?;
     }
-    let Naming { taken: _, found } = naming;
+    Ok(set)
+}
+
+fn add_new(
+    taken: &mut IndexSet<Text>,
+    found: &mut NameMap,
+    name: &Text,
+    new: Option<Text>,
+) -> Result<(), NoMemory>
+    ensures { OnOk result (so_far taken.new.keys found.new.entries
+        ≡ with_new (so_far taken.old.keys found.old.entries) name.now new) }
+{
+    match new {
+        None => Ok(()),
+        Some(new) => {
+            put(taken, &new)?;
+            let name = name.copy()?;
+            put_first(found, name, new)
+        }
+    }
+}
+
+/// Whether a component needs a new name and has none.
+pub fn lacks_name(found: &NameMap, name: &Text) -> bool
+    ensures { result ≡ lacks_name found.now.entries name.now }
+{
+    is_odd(name.as_bytes()) && !found.contains_key(name)
+}
+
+fn add_name(
+    alloc: Global,
+    taken: &mut IndexSet<Text>,
+    found: &mut NameMap,
+    name: &Text,
+) -> Result<(), NoMemory>
+    ensures { OnOk result (so_far taken.new.keys found.new.entries
+        ≡ with_name (so_far taken.old.keys found.old.entries) name.now) }
+{
+    if !lacks_name(found, name) {
+        return Ok(());
+    }
+    let new = fresh(alloc, taken, name)?;
+    add_new(taken, found, name, new)
+}
+
+/// The new names of these components.
+pub fn renamed(alloc: Global, names: &[Text]) -> Result<NameMap, NoMemory>
+    ensures { IfOk result (λ found. found.entries ≡ renamed names.now) }
+{
+    let mut taken = set_of(alloc, names)?;
+    let mut found = IndexMap::new(alloc);
+    for name in names {
+        add_name(alloc, &mut taken, &mut found, name)?;
+    }
     Ok(found)
 }
 
-fn find_name<'a>(names: &'a [NamePair], name: &str) -> Option<&'a NamePair>
-    ensures { option_copied result ≡ find_name names.now name.now }
-{
-    names.iter().find(|one| one.old.as_str() == name)
-}
-
 /// The name under which a component is written.
-pub fn new_name(alloc: Global, names: &[NamePair], name: &str) -> Result<Text, NoMemory>
-    ensures { IfOk result (λ text. text ≡ new_name names.now name.now) }
+pub fn new_name(names: &NameMap, name: &Text) -> Result<Text, NoMemory>
+    ensures { IfOk result (λ text. text ≡ new_name names.now.entries name.now) }
 {
-    match find_name(names, name) {
-        Some(one) => one.new.copy(),
-        None => Text::from_str(alloc, name),
+    match names.get(name) {
+        Some(new) => new.copy(),
+        None => name.copy(),
     }
 }

@@ -2,21 +2,14 @@
 
 ghost use Rattle.std.specs.Prelude.{◌≡◌, ◌++◌, ◌∷◌, ◌≤◌, [], IfOk, OnOk, length, take, drop, map, flat_map, ◌==◌};
 ghost use Rattle.std.specs.List.{prefix_len, slice_split};
-ghost use Rattle.std.specs.Option.{option_copied};
-ghost use Rattle.older_rules.specs.Tools.{is_tool_byte, is_known, known, own_tool, full_name, depended, tool_texts, tools_told, tool_of, tool_told, entry_tool, entry_told, commas};
+ghost use Rattle.older_rules.specs.Tools.{is_tool_byte, is_known, known, full_name, depended, tool_texts, tools_told, tool_of, tool_told, entry_tool, entry_told, commas};
 
 use crate::change::Change;
+use crate::name_map::NameMap;
 use cabal_lexer::trim;
 use entry_text::is_component_byte;
 use plan_types::{List, NoMemory, Text};
 use std::alloc::{AllocError, Global};
-
-/// An own executable, and the tool that it is: its package and its present name.
-#[derive(Drop)]
-pub struct Tool {
-    pub name: Text,
-    pub full: Text,
-}
 
 fn is_tool_byte(byte: u8) -> bool
     ensures { result ≡ is_tool_byte byte }
@@ -70,25 +63,20 @@ fn known(alloc: Global, name: &str) -> Result<Option<Text>, NoMemory>
     }
 }
 
-fn own_tool<'a>(own: &'a [Tool], name: &str) -> Option<&'a Tool>
-    ensures { option_copied result ≡ own_tool own.now name.now }
-{
-    own.iter().find(|tool| tool.name.as_str() == name)
-}
-
 // The tool of a name, with its package.
-fn full_name(alloc: Global, own: &[Tool], name: &str) -> Result<Option<Text>, NoMemory>
-    ensures { IfOk result (λ full. full ≡ full_name own.now name.now) }
+fn full_name(alloc: Global, own: &NameMap, name: &str) -> Result<Option<Text>, NoMemory>
+    ensures { IfOk result (λ full. full ≡ full_name own.now.entries name.now) }
 {
-    match own_tool(own, name) {
-        Some(tool) => Ok(Some(tool.full.copy()?)),
+    let key = Text::from_str(alloc, name)?;
+    match own.get(&key) {
+        Some(full) => Ok(Some(full.copy()?)),
         None => known(alloc, name),
     }
 }
 
 /// The entry of `build-tool-depends` for an entry of `build-tools`.
-fn depended(alloc: Global, own: &[Tool], entry: &str) -> Result<Option<Text>, NoMemory>
-    ensures { IfOk result (λ found. found ≡ depended own.now entry.now) }
+fn depended(alloc: Global, own: &NameMap, entry: &str) -> Result<Option<Text>, NoMemory>
+    ensures { IfOk result (λ found. found ≡ depended own.now.entries entry.now) }
 {
     let (name, rest) = cut(entry);
     match full_name(alloc, own, name)? {
@@ -107,13 +95,13 @@ fn joined(mut front: Text, back: &str) -> Result<Text, NoMemory>
 /// The entries for those of a text, without tools that Cabal doesn't know.
 pub fn tool_texts(
     alloc: Global,
-    own: &[Tool],
+    own: &NameMap,
     line: u32,
     text: &str,
     changes: &mut List<Change>,
 ) -> Result<List<Text>, NoMemory>
-    ensures tools { IfOk result (λ found. found ≡ tool_texts own.now text.now) }
-    ensures changes { OnOk result (changes.new ≡ changes.old ++ tools_told own.now line text.now) }
+    ensures tools { IfOk result (λ found. found ≡ tool_texts own.now.entries text.now) }
+    ensures changes { OnOk result (changes.new ≡ changes.old ++ tools_told own.now.entries line text.now) }
 {
     let pieces = pieces(alloc, text)?;
     each_tool(alloc, own, line, pieces.as_slice(), changes)
@@ -127,14 +115,14 @@ fn pieces(alloc: Global, text: &str) -> Result<Vec<&str>, AllocError>
 
 fn each_tool(
     alloc: Global,
-    own: &[Tool],
+    own: &NameMap,
     line: u32,
     pieces: &[&str],
     changes: &mut List<Change>,
 ) -> Result<List<Text>, NoMemory>
-    ensures tools { IfOk result (λ found. found ≡ flat_map (tool_of own.now) (map (λ piece. piece.now) pieces.now)) }
+    ensures tools { IfOk result (λ found. found ≡ flat_map (tool_of own.now.entries) (map (λ piece. piece.now) pieces.now)) }
     ensures changes { OnOk result (changes.new ≡ changes.old
-        ++ flat_map (tool_told own.now line) (map (λ piece. piece.now) pieces.now)) }
+        ++ flat_map (tool_told own.now.entries line) (map (λ piece. piece.now) pieces.now)) }
 {
     let mut found = List::new(alloc);
     for piece in pieces {
@@ -145,14 +133,14 @@ fn each_tool(
 
 fn push_tool(
     alloc: Global,
-    own: &[Tool],
+    own: &NameMap,
     line: u32,
     entry: &str,
     found: &mut List<Text>,
     changes: &mut List<Change>,
 ) -> Result<(), NoMemory>
-    ensures tools { OnOk result (found.new ≡ found.old ++ entry_tool own.now entry.now) }
-    ensures changes { OnOk result (changes.new ≡ changes.old ++ entry_told own.now line entry.now) }
+    ensures tools { OnOk result (found.new ≡ found.old ++ entry_tool own.now.entries entry.now) }
+    ensures changes { OnOk result (changes.new ≡ changes.old ++ entry_told own.now.entries line entry.now) }
 {
     if entry.is_empty() {
         return Ok(());

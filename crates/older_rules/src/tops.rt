@@ -1,27 +1,31 @@
 // The sections of a file.
 
-ghost use Rattle.std.specs.Prelude.{◌≡◌, ◌++◌, ◌∷◌, [], false, flat_map, IfOk, OnOk};
+ghost use Rattle.std.specs.Prelude.{◌≡◌, ◌++◌, ◌∷◌, [], false, flat_map, fold, IfOk, OnOk};
 ghost use Rattle.std.specs.List.{list_any};
 ghost use Rattle.plan_types.specs.declared.element.Element.TheVariants.{Section};
 ghost use Rattle.cabal_lexer.specs.Tree.{tree_of};
 ghost use Rattle.older_rules.specs.Bodies.{kept, told};
-ghost use Rattle.older_rules.specs.Tops.{is_component, component_name, tool_named, executable_tool, is_setup, top_rule, name_told, top_kept, top_told, tops, tops_told, KeepsTop, TellsTop};
+ghost use Rattle.older_rules.specs.NameMaps.{firsts, with_first};
+ghost use Rattle.older_rules.specs.Tops.{is_component, component_name, is_unnamed, name_fault, tool_named, executable_tool, is_setup, top_rule, name_told, top_kept, top_told, tops, tops_told, KeepsTop, TellsTop};
 ghost use Rattle.older_rules.specs.Names.{new_name};
 
 use crate::body::{Inside, push_section, rewritten};
 use crate::change::Change;
 use crate::edition::Edition;
-use crate::names::{NamePair, is_odd, new_name};
-use crate::tools::Tool;
-use plan_types::{Element, List, NoMemory, Text};
+use crate::item::line_of;
+use crate::name_map::{NameMap, put_first};
+use crate::names::{is_odd, lacks_name, new_name};
+use crate::refused::At;
+use indexmap::IndexMap;
+use plan_types::{Cause, Element, List, NoMemory, Text};
 use std::alloc::Global;
 
 /// What stays the same for all sections of a file.
 #[derive(Clone, Copy)]
 pub struct Rewriting<'a> {
     pub edition: Edition,
-    pub tools: &'a [Tool],
-    pub names: &'a [NamePair],
+    pub tools: &'a NameMap,
+    pub names: &'a NameMap,
 }
 
 /// What becomes of a section.
@@ -89,37 +93,56 @@ pub fn component_names(alloc: Global, items: &[Element]) -> Result<List<Text>, N
     Ok(names)
 }
 
-fn tool_named(
-    alloc: Global,
-    owner: &Text,
-    names: &[NamePair],
-    args: &Text,
-) -> Result<Tool, NoMemory>
-    ensures { IfOk result (λ tool. tool ≡ tool_named owner.now names.now args.now) }
+fn is_unnamed(names: &NameMap, item: &Element) -> bool
+    ensures { result ≡ is_unnamed names.now.entries item.now }
 {
-    let name = args.copy()?;
-    let new = new_name(alloc, names, args.as_str())?;
+    match item {
+        Element::Field { .. } => false,
+        Element::Section { name, args, .. } => {
+            is_component(name.as_str()) && lacks_name(names, args)
+        }
+    }
+}
+
+/// The first component that needs a new name and has none.
+pub fn name_fault(names: &NameMap, items: &[Element]) -> Option<At>
+    ensures { result ≡ name_fault names.now.entries items.now }
+{
+    match items.iter().find(|item| is_unnamed(names, item)) {
+        None => None,
+        Some(item) => Some(At {
+            line: line_of(item),
+            cause: Cause::DuplicateName,
+        }),
+    }
+}
+
+fn tool_named(owner: &Text, names: &NameMap, args: &Text) -> Result<Text, NoMemory>
+    ensures { IfOk result (λ full. full ≡ tool_named owner.now names.now.entries args.now) }
+{
+    let new = new_name(names, args)?;
     let mut full = owner.copy()?;
     full.push_str(":")?;
     full.push_str(new.as_str())?;
-    Ok(Tool { name, full })
+    Ok(full)
 }
 
-fn push_tool(
-    alloc: Global,
+fn put_tool(
     owner: &Text,
-    names: &[NamePair],
+    names: &NameMap,
     item: &Element,
-    tools: &mut List<Tool>,
+    tools: &mut NameMap,
 ) -> Result<(), NoMemory>
-    ensures { OnOk result (tools.new ≡ tools.old ++ executable_tool owner.now names.now item.now) }
+    ensures { OnOk result (tools.new.entries
+        ≡ fold with_first tools.old.entries (executable_tool owner.now names.now.entries item.now)) }
 {
     match item {
         Element::Field { .. } => Ok(()),
         Element::Section { name, args, .. } => {
             if name.as_str() == "executable" {
-                let tool = tool_named(alloc, owner, names, args)?;
-                tools.push(tool)
+                let full = tool_named(owner, names, args)?;
+                let name = args.copy()?;
+                put_first(tools, name, full)
             } else {
                 Ok(())
             }
@@ -127,18 +150,19 @@ fn push_tool(
     }
 }
 
-/// The own executables.
+/// The package's own executables.
 pub fn own_tools(
     alloc: Global,
     owner: &Text,
-    names: &[NamePair],
+    names: &NameMap,
     items: &[Element],
-) -> Result<List<Tool>, NoMemory>
-    ensures { IfOk result (λ tools. tools ≡ flat_map (executable_tool owner.now names.now) items.now) }
+) -> Result<NameMap, NoMemory>
+    ensures { IfOk result (λ tools. tools.entries
+        ≡ firsts (flat_map (executable_tool owner.now names.now.entries) items.now)) }
 {
-    let mut tools = List::new(alloc);
+    let mut tools = IndexMap::new(alloc);
     for item in items {
-        push_tool(alloc, owner, names, item, &mut tools)?;
+        put_tool(owner, names, item, &mut tools)?;
     }
     Ok(tools)
 }
@@ -179,9 +203,9 @@ fn push_kept(
     changes: &mut List<Change>,
 ) -> Result<(), NoMemory>
     ensures items { OnOk result (out.new ≡ out.old ++ Section line name.now args.now
-        (kept inside.now.edition inside.now.tools.now false (tree_of items.now)) ∷ []) }
+        (kept inside.now.edition inside.now.tools.now.entries false (tree_of items.now)) ∷ []) }
     ensures changes { OnOk result (changes.new ≡ changes.old
-        ++ told inside.now.edition inside.now.tools.now false (tree_of items.now)) }
+        ++ told inside.now.edition inside.now.tools.now.entries false (tree_of items.now)) }
 {
     let inner = rewritten(alloc, inside, items, changes)?;
     push_section(line, name, args, inner, out)
@@ -189,7 +213,7 @@ fn push_kept(
 
 fn push_component(
     alloc: Global,
-    names: &[NamePair],
+    names: &NameMap,
     inside: &Inside<'_>,
     line: u32,
     name: &Text,
@@ -198,13 +222,13 @@ fn push_component(
     out: &mut List<Element>,
     changes: &mut List<Change>,
 ) -> Result<(), NoMemory>
-    ensures items { OnOk result (out.new ≡ out.old ++ Section line name.now (new_name names.now args.now)
-        (kept inside.now.edition inside.now.tools.now false (tree_of items.now)) ∷ []) }
+    ensures items { OnOk result (out.new ≡ out.old ++ Section line name.now (new_name names.now.entries args.now)
+        (kept inside.now.edition inside.now.tools.now.entries false (tree_of items.now)) ∷ []) }
     ensures changes { OnOk result (changes.new ≡ changes.old ++ (name_told line args.now
-        ++ told inside.now.edition inside.now.tools.now false (tree_of items.now))) }
+        ++ told inside.now.edition inside.now.tools.now.entries false (tree_of items.now))) }
 {
     tell_name(line, args, changes)?;
-    let new = new_name(alloc, names, args.as_str())?;
+    let new = new_name(names, args)?;
     push_kept(alloc, inside, line, name, &new, items, out, changes)
 }
 
@@ -219,10 +243,10 @@ fn push_top_section(
     out: &mut List<Element>,
     changes: &mut List<Change>,
 ) -> Result<(), NoMemory>
-    ensures items { OnOk result (out.new ≡ out.old ++ top_kept rewriting.now.edition rewriting.now.tools.now
-        rewriting.now.names.now rule line name.now args.now (tree_of items.now)) }
+    ensures items { OnOk result (out.new ≡ out.old ++ top_kept rewriting.now.edition rewriting.now.tools.now.entries
+        rewriting.now.names.now.entries rule line name.now args.now (tree_of items.now)) }
     ensures changes { OnOk result (changes.new ≡ changes.old ++ top_told rewriting.now.edition
-        rewriting.now.tools.now rule line args.now (tree_of items.now)) }
+        rewriting.now.tools.now.entries rule line args.now (tree_of items.now)) }
 {
     match rule {
         TopRule::Dropped => changes.push(Change::Dropped { line }),
@@ -254,7 +278,7 @@ fn push_top_section(
 impl<'a> Rewriting<'a> {
     fn inside(&self, edition: Edition) -> Inside<'a>
         ensures edition { result.edition ≡ edition }
-        ensures tools { result.tools.now ≡ self.now.tools.now }
+        ensures tools { result.tools.now.entries ≡ self.now.tools.now.entries }
     {
         Inside {
             edition,
@@ -270,9 +294,9 @@ fn push_top(
     out: &mut List<Element>,
     changes: &mut List<Change>,
 ) -> Result<(), NoMemory>
-    ensures items { OnOk result (KeepsTop rewriting.now.edition rewriting.now.tools.now rewriting.now.names.now
+    ensures items { OnOk result (KeepsTop rewriting.now.edition rewriting.now.tools.now.entries rewriting.now.names.now.entries
         item.now out.old out.new) }
-    ensures changes { OnOk result (TellsTop rewriting.now.edition rewriting.now.tools.now item.now changes.old changes.new) }
+    ensures changes { OnOk result (TellsTop rewriting.now.edition rewriting.now.tools.now.entries item.now changes.old changes.new) }
 {
     match item {
         Element::Field { line, .. } => changes.push(Change::Dropped { line: *line }),
@@ -306,10 +330,10 @@ pub fn push_tops(
     out: &mut List<Element>,
     changes: &mut List<Change>,
 ) -> Result<(), NoMemory>
-    ensures items { OnOk result (out.new ≡ out.old ++ tops rewriting.now.edition rewriting.now.tools.now
-        rewriting.now.names.now (tree_of items.now)) }
+    ensures items { OnOk result (out.new ≡ out.old ++ tops rewriting.now.edition rewriting.now.tools.now.entries
+        rewriting.now.names.now.entries (tree_of items.now)) }
     ensures changes { OnOk result (changes.new ≡ changes.old ++ tops_told rewriting.now.edition
-        rewriting.now.tools.now (tree_of items.now)) }
+        rewriting.now.tools.now.entries (tree_of items.now)) }
 {
     for item in items {
         push_top(alloc, rewriting, item, out, changes)?;

@@ -14,5 +14,5 @@ decreases-rewrite l = 2 * goal.size-rewrite l
 -- the items so far, followed by those of the rest, are those of all
 abbrev pub invariant-rewritten-loop-item : goal.invariant-rewritten-loop-item
 invariant-rewritten-loop-item l =
-    (l.out ++ kept l.inside.edition l.inside.tools.now l.chained (tree_of (drop l.item-index l.items)) ≡ kept l.inside.edition l.inside.tools.now false (tree_of l.items))
-    × (l.changes ++ told l.inside.edition l.inside.tools.now l.chained (tree_of (drop l.item-index l.items)) ≡ l.initial.changes ++ told l.inside.edition l.inside.tools.now false (tree_of l.items))
+    (l.out ++ kept l.inside.edition l.inside.tools.now.entries l.chained (tree_of (drop l.item-index l.items)) ≡ kept l.inside.edition l.inside.tools.now.entries false (tree_of l.items))
+    × (l.changes ++ told l.inside.edition l.inside.tools.now.entries l.chained (tree_of (drop l.item-index l.items)) ≡ l.initial.changes ++ told l.inside.edition l.inside.tools.now.entries false (tree_of l.items))

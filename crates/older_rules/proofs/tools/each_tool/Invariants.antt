@@ -4,5 +4,5 @@ use Rattle.older_rules.proofs.tools.each_tool.Given as goal
 
 abbrev pub invariant-loop-piece : goal.invariant-loop-piece
 invariant-loop-piece l =
-    (l.found ≡ flat_map (tool_of l.own) (map (λ piece. piece.now) (take l.piece-index l.pieces)))
-    × (l.changes ≡ l.initial.changes ++ flat_map (tool_told l.own l.line) (map (λ piece. piece.now) (take l.piece-index l.pieces)))
+    (l.found ≡ flat_map (tool_of l.own.entries) (map (λ piece. piece.now) (take l.piece-index l.pieces)))
+    × (l.changes ≡ l.initial.changes ++ flat_map (tool_told l.own.entries l.line) (map (λ piece. piece.now) (take l.piece-index l.pieces)))
