@@ -115,16 +115,22 @@ class Closure:
 
     def __init__(self, index, records, can_read, newest):
         self.index, self.units, self.can_read, self.newest, self.records = index, of_units(records), can_read, newest, len(records)
-        self.versions, self.full, self.lean, self.sizes = {}, {}, {}, {}
+        self.listed, self.versions, self.full, self.lean, self.sizes = {}, {}, {}, {}, {}
 
     def is_good(self, data):
         """Returns whether the planner reads a file."""
         return len(data) <= MOST and (not self.can_read or self.can_read(data))
 
+    def there(self, name):
+        """Returns all versions of a name in the index."""
+        if name not in self.listed:
+            self.listed[name] = self.index.versions(name)
+        return self.listed[name]
+
     def read(self, name):
         """Reads the files of a name: all versions, or at most `newest`, the readable ones first."""
         good, bad, full, lean = {}, {}, set(), set()
-        there = sorted(self.index.versions(name), key=by_number, reverse=True)
+        there = sorted(self.there(name), key=by_number, reverse=True)
         # So many are refused, whatever stands in them.
         is_refused = not self.newest and len(there) > MOST_FILES
         for version in [] if is_refused else there:
@@ -145,30 +151,37 @@ class Closure:
         """Returns the names that are reached from `roots`, and whether those are left out that only suites reach, since
         all are too many. Local names have no versions."""
         for name in locals_:
-            self.versions[name], self.sizes[name] = [], 0
+            self.listed[name], self.versions[name], self.sizes[name] = [], [], 0
             self.full[name] = self.lean[name] = self.units.get(name, set())
-        found = self.spread(roots, self.full, True)
-        return (self.spread(roots, self.lean, False), True) if self.is_too_much(found) else (found, False)
+        lean = self.spread(roots, self.lean, False)
+        full = self.spread(lean, self.full, True)
+        return (lean, True) if self.is_too_much(full) else (full, False)
 
     def spread(self, roots, mentions, can_stop):
-        """Returns all names that mentions reach. With `can_stop` it stops once they are too many."""
-        found, rest, files = set(roots), list(roots), 0
-        while rest and not (can_stop and files > MOST_FILES):
+        """Returns all names that mentions reach. With `can_stop` it stops once their files are too many, whatever stands in
+        those that aren't read yet."""
+        found, rest, files = set(roots), list(roots), self.count(roots)
+        while rest and not (can_stop and self.is_too_many(files)):
             name = rest.pop()
             if name not in self.versions:
                 self.read(name)
-            files += len(self.versions[name])
             new = mentions[name] - found
             found |= new
             rest.extend(new)
-        return found - set(rest)
+            files += self.count(new)
+        return found
 
     def count(self, names):
-        return sum(len(self.versions[it]) for it in names)
+        """Returns how many files of these names are kept."""
+        counts = (len(self.there(it)) for it in names)
+        return sum(min(it, self.newest) for it in counts) if self.newest else sum(counts)
+
+    def is_too_many(self, files):
+        return self.records + files > MOST_FILES
 
     def is_too_much(self, names):
-        """Returns whether the planner would refuse the files of these names as too many."""
-        return self.records + self.count(names) > MOST_FILES or sum(self.sizes[it] for it in names) > MOST_BYTES
+        """Returns whether the planner would refuse the files of these names as too many, or as too large."""
+        return self.is_too_many(self.count(names)) or sum(self.sizes[it] for it in names) > MOST_BYTES
 
     def fitting(self, names):
         """Returns how many versions of each name the planner would accept, or 0 if not even one."""
