@@ -4,8 +4,10 @@ Input: a path. Output: an index with the versions of a name, and the bytes of ea
 stream for the places of its files, and only these are kept. Of several entries of one path the last counts."""
 
 import contextlib
+import functools
 import os
 import re
+import struct
 import time
 
 from tool.folder.progress import Progress
@@ -17,8 +19,11 @@ BLOCK, CHUNK = 512, 1 << 22
 # The marks of a tar's entry: a file, a long name of the next entry, or records about it.
 FILE, LONG_NAME, RECORDS, CABAL = (b"0", b"\0"), b"L", b"x", b".cabal\0"
 LONGER = (LONG_NAME, RECORDS)
+# The parts of a head: the name, the digits of the size and what ends them, the kind, the mark of a tar, and the name's prefix.
+HEAD, OCTAL, STOPS, USTAR = struct.Struct("100s24x11sc20xc100x5s83xc"), b"01234567", (b"\0", b" "), b"ustar"
 
 
+@functools.lru_cache(maxsize=4096)
 def is_version(text):
     return is_name(text, "version")
 
@@ -102,6 +107,8 @@ class Tar:
         """Finds the places of all `.cabal` files, and returns how many there are."""
         at, buffer, start, longer, larger = 0, b"", 0, None, None
         while True:
+            if longer is None and larger is None:
+                at = self.scan_plain(buffer, start, at)
             place = at - start
             if place + BLOCK > len(buffer):
                 buffer, start, place = self.bytes_at(at, CHUNK), at, 0
@@ -124,6 +131,23 @@ class Tar:
                     self.note(longer or name_of(buffer[place : place + BLOCK]), at + BLOCK, size)
                 longer = larger = None
             at += BLOCK + (size + BLOCK - 1) // BLOCK * BLOCK
+
+    def scan_plain(self, buffer, start, at):
+        """Finds the places of the plain files from this byte on: those with a short name, and a size in octal digits. Returns
+        the byte of the first other entry, or of one that isn't whole in the buffer, whose first byte is at `start`."""
+        place, last, end = at - start, len(buffer) - BLOCK, self.size - start
+        while place <= last:
+            name, digits, stop, kind, tar, prefix = HEAD.unpack_from(buffer, place)
+            if tar != USTAR or kind not in FILE or prefix != b"\0" or stop not in STOPS or digits.strip(OCTAL):
+                break
+            size = int(digits, 8)
+            begin = place + BLOCK
+            if begin + size > end:
+                break
+            if CABAL in name:
+                self.note(name[: name.index(0)], start + begin, size)
+            place = begin + (size + BLOCK - 1) // BLOCK * BLOCK
+        return start + place
 
     def about_next(self, kind, at, size):
         """Returns the path and the size that an entry gives the next one, or none for each."""
@@ -155,7 +179,7 @@ class Tar:
     def note(self, path, at, size):
         """Keeps the place of a file if it is the `.cabal` file of a version."""
         parts = path.decode("utf-8", "replace").removeprefix("./").split("/")
-        if len(parts) == 3 and parts[2] == f"{parts[0]}.cabal" and is_version(parts[1]) and is_name(parts[0], "package"):
+        if len(parts) == 3 and parts[2] == f"{parts[0]}.cabal" and is_version(parts[1]) and (parts[0] in self.places or is_name(parts[0], "package")):
             self.places.setdefault(parts[0], {})[parts[1]] = at, size
 
     def versions(self, name):
