@@ -1,6 +1,7 @@
 """What the scripts write, rename and remove."""
 
 import ast
+import contextlib
 import os
 import stat
 import sys
@@ -88,8 +89,7 @@ class Files(Room):
         os.makedirs(f"{self.room}/new")
         os.symlink("../src", f"{self.room}/new/way")
         before = listing(f"{self.room}/src")
-        with files.opened(f"{self.room}/new") as handle:
-            to = files.Filling(handle)
+        with files.opened(f"{self.room}/new") as handle, contextlib.closing(files.Filling(handle)) as to:
             for call in (lambda: to.put("way/x", b""), lambda: to.link("way/project/x", "y"), lambda: to.put("way", b"")):
                 with self.assertRaises(OSError):
                     call()
