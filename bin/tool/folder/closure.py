@@ -12,16 +12,18 @@ import re
 from tool.folder.index import by_number
 from tool.input import MOST, MOST_BYTES, MOST_FILES
 
-# The ends of the names of dependency fields, and these names.
-ENDS = (b"depends", b"build-tools")
+# How the names of dependency fields end, and these names.
+END = re.compile(rb"-(?:depends|tools)")
 NAMES = (b"build-depends", b"build-tool-depends", b"build-tools", b"setup-depends")
 COLON = re.compile(rb"[ \t]*:(?:\s*(\{))?")
+# A dependency field at the front of a line, with its indent.
+FIELD = re.compile(rb"\n([ \t]*)(?:build-(?:tool-)?depends|build-tools|setup-depends)[ \t]*:")
 INLINE = re.compile(rb"[{}\n]")
 BLANKS, BRACES, LINE = b" \t", b"{}", ord("\n")
 COMMENT = re.compile(rb"(?m)^[ \t]*--[^\n]*$")
-NAME = re.compile(rb"(?:\A|,)\s*([A-Za-z0-9]+(?:-[A-Za-z0-9]+)*)")
+NAME = re.compile(rb",\s*([A-Za-z0-9]+(?:-[A-Za-z0-9]+)*)")
 # Sections that are built only for a local package. They begin at the front of a line, and so does the next element.
-SUITES, NEXT = (b"\ntest-suite", b"\nbenchmark"), re.compile(rb"\n[a-z]")
+SUITE, NEXT = re.compile(rb"\n(?:test-suite|benchmark)"), re.compile(rb"\n[a-z]")
 HAS_SETUP = re.compile(rb"build-type[ \t]*:\s*(?:simple|configure|make)\b")
 OF_SETUP = {b"base", b"Cabal"}
 
@@ -49,8 +51,24 @@ def beginning(low, end):
 def dependency_fields(data, low):
     """Yields the place and the text of each dependency field. `low` is the same text in lower case. No text of a field
     is looked through again."""
+    return braced_fields(data, low) if b"{" in low or b"}" in low else plain_fields(data, low)
+
+
+def plain_fields(data, low):
+    """Yields the dependency fields of a text without braces. Each is at the front of a line."""
+    done = 0
+    for it in FIELD.finditer(b"\n" + low):
+        begin, start, size = it.end(1) - 1, it.end() - 1, it.end(1) - it.start(1)
+        if start > done:
+            last = ending(size).search(data, start)
+            done = last.start() if last else len(data)
+            yield begin, data[start:done]
+
+
+def braced_fields(data, low):
+    """Yields the dependency fields of a text that can have some within braces or on a line with other elements."""
     done, close = 0, -1
-    for end in sorted(at + len(it) for it in ENDS for at in places(low, it)):
+    for end in [it.end() for it in END.finditer(low)]:
         found = beginning(low, end) if end > done else None
         colon = COLON.match(low, end) if found else None
         if not colon:
@@ -69,35 +87,25 @@ def dependency_fields(data, low):
 
 def suites(low):
     """Returns where test suites and benchmarks begin, and where each of them ends."""
-    found = []
-    for at in sorted(at for word in SUITES for at in places(low, word)):
-        end = NEXT.search(low, at + 1)
-        found.append((at, end.start() if end else len(low)))
-    return [it[0] for it in found], [it[1] for it in found]
+    begins = [it.start() for it in SUITE.finditer(low)]
+    ends = [NEXT.search(low, at + 1) for at in begins]
+    return begins, [it.start() if it else len(low) for it in ends]
 
 
 def mentioned(data):
     """Returns the names in the dependency fields of a file, with the implicit ones of a setup script; and those of them
     outside of test suites and benchmarks."""
     low = data.lower()
-    unsaid = set() if any(HAS_SETUP.match(low, at) for at in places(low, b"build-type")) else OF_SETUP
+    unsaid = set() if HAS_SETUP.search(low) else OF_SETUP
     begins, ends = suites(low)
     full, lean = set(unsaid), set(unsaid)
     for at, text in dependency_fields(data, low):
-        found = NAME.findall(COMMENT.sub(b"", text) if b"--" in text else text)
+        found = NAME.findall(b"," + (COMMENT.sub(b"", text) if b"--" in text else text))
         full.update(found)
         suite = bisect.bisect_right(begins, at) - 1
         if suite < 0 or at >= ends[suite]:
             lean.update(found)
     return full, lean
-
-
-def places(text, word):
-    """Yields the places of a word in a text."""
-    at = text.find(word)
-    while at >= 0:
-        yield at
-        at = text.find(word, at + 1)
 
 
 def of_units(records):
