@@ -16,6 +16,7 @@ from tool.refusal import Refusal, shown
 
 FOLDER = os.O_RDONLY | os.O_DIRECTORY | os.O_NOFOLLOW | os.O_CLOEXEC
 NEW_FILE = os.O_WRONLY | os.O_CREAT | os.O_EXCL | os.O_NOFOLLOW | os.O_CLOEXEC
+OLD_FILE = os.O_WRONLY | os.O_NOFOLLOW | os.O_NONBLOCK | os.O_CLOEXEC
 # The folders that a removal enters below one another, and the most bytes of a small file that is read.
 DEEPEST, SMALL = 64, 4096
 
@@ -144,6 +145,16 @@ class Filling:
         """Removes a file or a link."""
         at, name = self._parent(path)
         os.unlink(name, dir_fd=at)
+
+    def rewrite(self, path, data):
+        """Puts these bytes into a file that this has made, which keeps its place and mode."""
+        at, name = self._parent(path)
+        handle = os.open(name, OLD_FILE, dir_fd=at)
+        try:
+            write_all(handle, data)
+            os.ftruncate(handle, len(data))
+        finally:
+            os.close(handle)
 
 
 def shared(some, others):
