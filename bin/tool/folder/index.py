@@ -15,7 +15,7 @@ from tool.input import MOST, front
 from tool.names import is_name
 from tool.refusal import Refusal
 
-BLOCK, CHUNK = 512, 1 << 22
+BLOCK, CHUNK = 512, 1 << 18
 # The marks of a tar's entry: a file, a long name of the next entry, or records about it.
 FILE, LONG_NAME, RECORDS, CABAL = (b"0", b"\0"), b"L", b"x", b".cabal\0"
 LONGER = (LONG_NAME, RECORDS)
@@ -23,14 +23,14 @@ LONGER = (LONG_NAME, RECORDS)
 HEAD, OCTAL, STOPS, USTAR = struct.Struct("100s24x11sc20xc100x5s83xc"), b"01234567", (b"\0", b" "), b"ustar"
 
 
-@functools.lru_cache(maxsize=4096)
 def is_version(text):
     return is_name(text, "version")
 
 
+@functools.lru_cache(maxsize=1 << 14)
 def by_number(text):
     """Returns the key by which versions are compared."""
-    return [int(it) for it in text.split(".")]
+    return tuple(map(int, text.split(".")))
 
 
 class Folder:
