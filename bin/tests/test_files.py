@@ -98,6 +98,22 @@ class Files(Room):
                 to.put("a/b/c", b"again")
         self.assertEqual(before, listing(f"{self.room}/src"))
 
+    def test_rewriting_keeps_to_the_file(self):
+        os.makedirs(f"{self.room}/new/a")
+        mine = self.write("src/mine", "not to be lost\n")
+        os.symlink(mine, f"{self.room}/new/a/link")
+        os.link(mine, f"{self.room}/new/a/other")
+        with files.opened(f"{self.room}/new") as handle, contextlib.closing(files.Filling(handle)) as to:
+            to.put("a/b/c", b"a long text")
+            to.put("a/d", b"")
+            for path, text in (("a/b/c", b"short"), ("a/d", b"longer")):
+                to.rewrite(path, text)
+                self.assertEqual(text, refusal.read(f"{self.room}/new/{path}"))
+            for path in ("a/link", "a/other", "a/missing", "a/b"):
+                with self.assertRaises(OSError):
+                    to.rewrite(path, b"lost")
+        self.assertEqual(b"not to be lost\n", refusal.read(mine))
+
     def test_nothing_is_removed_where_something_is_foreign(self):
         os.makedirs(f"{self.room}/made/a")
         self.write("made/a/x.conf", "")

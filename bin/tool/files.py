@@ -19,7 +19,6 @@ NEW_FILE = os.O_WRONLY | os.O_CREAT | os.O_EXCL | os.O_NOFOLLOW | os.O_CLOEXEC
 OLD_FILE = os.O_WRONLY | os.O_NOFOLLOW | os.O_NONBLOCK | os.O_CLOEXEC
 # The folders that a removal enters below one another, and the most bytes of a small file that is read.
 DEEPEST, SMALL = 64, 4096
-
 # The parts of a path that name no file of a folder.
 NO_NAMES = {"", ".", ".."}
 
@@ -147,10 +146,13 @@ class Filling:
         os.unlink(name, dir_fd=at)
 
     def rewrite(self, path, data):
-        """Puts these bytes into a file that this has made, which keeps its place and mode."""
+        """Puts these bytes into a file that this has made. It is no link, and has no other name."""
         at, name = self._parent(path)
         handle = os.open(name, OLD_FILE, dir_fd=at)
         try:
+            of = os.fstat(handle)
+            if not stat.S_ISREG(of.st_mode) or of.st_nlink != 1:
+                raise FileExistsError(errno.EEXIST, os.strerror(errno.EEXIST), name)
             write_all(handle, data)
             os.ftruncate(handle, len(data))
         finally:
