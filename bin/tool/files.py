@@ -124,7 +124,7 @@ class Filling:
         """Opens the folder of a path, and returns its handle and the last name of the path."""
         *folders, last = parts(path)
         if folders != self.names:
-            self._leave(shared(folders, self.names))
+            self._leave(len(os.path.commonprefix([folders, self.names])))
             for name in folders[len(self.names) :]:
                 with contextlib.suppress(FileExistsError):
                     os.mkdir(name, dir_fd=self.handles[-1])
@@ -157,11 +157,6 @@ class Filling:
             os.ftruncate(handle, len(data))
         finally:
             os.close(handle)
-
-
-def shared(some, others):
-    """Returns how many names two paths have in common at their front."""
-    return next((at for at, (one, other) in enumerate(zip(some, others)) if one != other), min(len(some), len(others)))
 
 
 def entries(handle):

@@ -138,11 +138,8 @@ class Tar:
         place, last, end = at - start, len(buffer) - BLOCK, self.size - start
         while place <= last:
             name, digits, stop, kind, tar, prefix = HEAD.unpack_from(buffer, place)
-            if tar != USTAR or kind not in FILE or prefix != b"\0" or stop not in STOPS or digits.strip(OCTAL):
-                break
-            size = int(digits, 8)
-            begin = place + BLOCK
-            if begin + size > end:
+            size, begin = octal(digits), place + BLOCK
+            if tar != USTAR or kind not in FILE or prefix != b"\0" or stop not in STOPS or size is None or begin + size > end:
                 break
             if CABAL in name:
                 self.note(name[: name.index(0)], start + begin, size)
@@ -200,6 +197,12 @@ class Tar:
     def target(self, _name, _version):
         """Returns none: a link can't lead into a tar."""
         return None
+
+
+@functools.lru_cache(maxsize=1 << 14)
+def octal(digits):
+    """Returns the number of these octal digits, or none if they are something else. Many files have the same size."""
+    return None if digits.strip(OCTAL) else int(digits, 8)
 
 
 def number(field):
