@@ -176,8 +176,13 @@ class Tar:
     def note(self, path, at, size):
         """Keeps the place of a file if it is the `.cabal` file of a version."""
         parts = path.decode("utf-8", "replace").removeprefix("./").split("/")
-        if len(parts) == 3 and parts[2] == f"{parts[0]}.cabal" and is_version(parts[1]) and (parts[0] in self.places or is_name(parts[0], "package")):
-            self.places.setdefault(parts[0], {})[parts[1]] = at, size
+        if len(parts) != 3 or parts[2] != parts[0] + ".cabal":
+            return
+        known = self.places.get(parts[0])
+        if known is not None and (parts[1] in known or is_version(parts[1])):
+            known[parts[1]] = at, size
+        elif known is None and is_version(parts[1]) and is_name(parts[0], "package"):
+            self.places[parts[0]] = {parts[1]: (at, size)}
 
     def versions(self, name):
         """Returns the versions of a name."""
