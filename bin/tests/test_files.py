@@ -1,6 +1,7 @@
 """What the scripts write, rename and remove."""
 
 import ast
+import contextlib
 import os
 import stat
 import sys
@@ -88,8 +89,7 @@ class Files(Room):
         os.makedirs(f"{self.room}/new")
         os.symlink("../src", f"{self.room}/new/way")
         before = listing(f"{self.room}/src")
-        with files.opened(f"{self.room}/new") as handle:
-            to = files.Filling(handle)
+        with files.opened(f"{self.room}/new") as handle, contextlib.closing(files.Filling(handle)) as to:
             for call in (lambda: to.put("way/x", b""), lambda: to.link("way/project/x", "y"), lambda: to.put("way", b"")):
                 with self.assertRaises(OSError):
                     call()
@@ -97,6 +97,22 @@ class Files(Room):
             with self.assertRaises(FileExistsError):
                 to.put("a/b/c", b"again")
         self.assertEqual(before, listing(f"{self.room}/src"))
+
+    def test_rewriting_keeps_to_the_file(self):
+        os.makedirs(f"{self.room}/new/a")
+        mine = self.write("src/mine", "not to be lost\n")
+        os.symlink(mine, f"{self.room}/new/a/link")
+        os.link(mine, f"{self.room}/new/a/other")
+        with files.opened(f"{self.room}/new") as handle, contextlib.closing(files.Filling(handle)) as to:
+            to.put("a/b/c", b"a long text")
+            to.put("a/d", b"")
+            for path, text in (("a/b/c", b"short"), ("a/d", b"longer")):
+                to.rewrite(path, text)
+                self.assertEqual(text, refusal.read(f"{self.room}/new/{path}"))
+            for path in ("a/link", "a/other", "a/missing", "a/b"):
+                with self.assertRaises(OSError):
+                    to.rewrite(path, b"lost")
+        self.assertEqual(b"not to be lost\n", refusal.read(mine))
 
     def test_nothing_is_removed_where_something_is_foreign(self):
         os.makedirs(f"{self.room}/made/a")

@@ -16,8 +16,11 @@ from tool.refusal import Refusal, shown
 
 FOLDER = os.O_RDONLY | os.O_DIRECTORY | os.O_NOFOLLOW | os.O_CLOEXEC
 NEW_FILE = os.O_WRONLY | os.O_CREAT | os.O_EXCL | os.O_NOFOLLOW | os.O_CLOEXEC
+OLD_FILE = os.O_WRONLY | os.O_NOFOLLOW | os.O_NONBLOCK | os.O_CLOEXEC
 # The folders that a removal enters below one another, and the most bytes of a small file that is read.
 DEEPEST, SMALL = 64, 4096
+# The parts of a path that name no file of a folder.
+NO_NAMES = {"", ".", ".."}
 
 
 class Foreign(Exception):
@@ -27,7 +30,7 @@ class Foreign(Exception):
 def parts(path):
     """Returns the names of a path below a folder."""
     names = path.split("/")
-    if not all(it not in ("", ".", "..") and "\0" not in it for it in names):
+    if "\0" in path or not NO_NAMES.isdisjoint(names):
         raise Refusal(f"'{shown(path)}' isn't a path below a folder")
     return names
 
@@ -102,39 +105,58 @@ def parent(top, path):
 
 class Filling:
     """A new folder that is being filled: its handle, and its path for programs that read there. Its folders are made as they
-    are needed."""
+    are needed. Those of the last path stay open for the next one."""
 
     def __init__(self, handle, path=None):
-        self.handle, self.path = handle, path
+        self.handle, self.path, self.names, self.handles = handle, path, [], [handle]
 
-    @contextlib.contextmanager
+    def close(self):
+        """Closes the folders of the last path."""
+        self._leave(0)
+
+    def _leave(self, depth):
+        """Closes the folders that are deeper than this."""
+        del self.names[depth:]
+        while len(self.handles) > depth + 1:
+            os.close(self.handles.pop())
+
     def _parent(self, path):
-        """Opens the folder of a path, and yields its handle and the last name of the path."""
+        """Opens the folder of a path, and returns its handle and the last name of the path."""
         *folders, last = parts(path)
-        at = os.dup(self.handle)
-        try:
-            for name in folders:
+        if folders != self.names:
+            self._leave(len(os.path.commonprefix([folders, self.names])))
+            for name in folders[len(self.names) :]:
                 with contextlib.suppress(FileExistsError):
-                    os.mkdir(name, dir_fd=at)
-                below = open_folder(name, at)
-                os.close(at)
-                at = below
-            yield at, last
-        finally:
-            os.close(at)
+                    os.mkdir(name, dir_fd=self.handles[-1])
+                self.handles.append(open_folder(name, self.handles[-1]))
+                self.names.append(name)
+        return self.handles[-1], last
 
     def put(self, path, data, mode=0o644):
-        with self._parent(path) as (at, name):
-            put(name, data, at, mode)
+        at, name = self._parent(path)
+        put(name, data, at, mode)
 
     def link(self, path, target):
-        with self._parent(path) as (at, name):
-            os.symlink(target, name, dir_fd=at)
+        at, name = self._parent(path)
+        os.symlink(target, name, dir_fd=at)
 
     def remove(self, path):
         """Removes a file or a link."""
-        with self._parent(path) as (at, name):
-            os.unlink(name, dir_fd=at)
+        at, name = self._parent(path)
+        os.unlink(name, dir_fd=at)
+
+    def rewrite(self, path, data):
+        """Puts these bytes into a file that this has made. It is no link, and has no other name."""
+        at, name = self._parent(path)
+        handle = os.open(name, OLD_FILE, dir_fd=at)
+        try:
+            of = os.fstat(handle)
+            if not stat.S_ISREG(of.st_mode) or of.st_nlink != 1:
+                raise FileExistsError(errno.EEXIST, os.strerror(errno.EEXIST), name)
+            write_all(handle, data)
+            os.ftruncate(handle, len(data))
+        finally:
+            os.close(handle)
 
 
 def entries(handle):

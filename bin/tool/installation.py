@@ -3,6 +3,7 @@
 Input: the folder, such as `/usr/local`. A list of all that is made stands in `lib/cabal-plan`: the sum of each file, where
 each link leads, and each new folder. What has changed since, or isn't in the list, stays."""
 
+import contextlib
 import glob
 import hashlib
 import os
@@ -134,13 +135,13 @@ class Prefix:
         if there:
             raise Refusal(f"{self.path}/{there[0]} is here already, and isn't of an installation: move it away")
         new = [it for it in folders_of([LIST, *(it.path for it in made)]) if self.kind(it) is None]
-        to = files.Filling(self.top)
-        to.put(LIST, "".join(f"{it}\n" for it in [*(it.line() for it in made), *(f"folder - {it}" for it in new)]).encode())
-        for it in made:
-            if it.target:
-                to.link(it.path, it.target)
-            else:
-                to.put(it.path, it.data, it.mode)
+        with contextlib.closing(files.Filling(self.top)) as to:
+            to.put(LIST, "".join(f"{it}\n" for it in [*(it.line() for it in made), *(f"folder - {it}" for it in new)]).encode())
+            for it in made:
+                if it.target:
+                    to.link(it.path, it.target)
+                else:
+                    to.put(it.path, it.data, it.mode)
 
     def uninstall(self, say):
         """Removes what was installed, and returns whether anything was."""

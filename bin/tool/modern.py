@@ -20,6 +20,8 @@ KINDS = {
 KINDS_AT = {
     "left-out": "parts that Cabal passes over", "build-tools": "build-tools", "unknown-tool": "unknown tools", "component-name": "component names",
 }  # fmt: skip
+# The words of frames that have one line, as bytes.
+WHOLE = {it.encode(): it for it in (UNCHANGED, MISSING)}
 # What is said of a text with another layout or encoding and no other change.
 LAYOUT = "layout"
 # The most bytes of a list and of a text, which are those of the program, of a line of a frame, and of a message.
@@ -75,14 +77,14 @@ class Frames:
     def next(self, name, path):
         """Returns the next frame, which must be the one of this name in a list. `path` is the file's own path."""
         line, said = self.line(), os.fsencode(name)
-        for word in (UNCHANGED, MISSING):
-            if line == word.encode() + b" " + said:
-                return Frame(path, word)
-        if line == REWRITTEN.encode() + b" " + said:
+        word, _, rest = line.partition(b" ")
+        if rest == said and word in WHOLE:
+            return Frame(path, WHOLE[word])
+        if rest == said and word == REWRITTEN.encode():
             kinds, size = self.changes()
             return Frame(path, REWRITTEN, text=self.text(size), kinds=kinds)
-        if line.startswith(REFUSED.encode() + b" " + said):
-            return self.refusal(line[len(REFUSED) + 1 + len(said) :], path)
+        if word == REFUSED.encode() and rest.startswith(said):
+            return self.refusal(rest[len(said) :], path)
         raise Damaged(f"it isn't the frame of {shown(path)}: {told(line)}")
 
     @staticmethod

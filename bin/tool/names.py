@@ -3,6 +3,7 @@
 Input: a name that an index, a record or a project gives. Output: the same name, if a package, version or unit may be called
 so. None of these has a slash, or is `.` or `..`."""
 
+import functools
 import re
 
 from tool.refusal import Refusal, shown
@@ -18,7 +19,13 @@ LONGEST = 230
 
 def is_name(text, kind):
     """Returns whether a package, version or unit may be called so."""
-    return len(text) <= LONGEST and NAMES[kind].fullmatch(text) is not None
+    return len(text) <= LONGEST and fits(text, kind)
+
+
+@functools.lru_cache(maxsize=1 << 14)
+def fits(text, kind):
+    """Returns whether a text that isn't too long is such a name. An index has the same names many times."""
+    return NAMES[kind].fullmatch(text) is not None
 
 
 def file_name(text, kind, where):

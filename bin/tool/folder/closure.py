@@ -12,16 +12,18 @@ import re
 from tool.folder.index import by_number
 from tool.input import MOST, MOST_BYTES, MOST_FILES
 
-# The ends of the names of dependency fields, and these names.
-ENDS = (b"depends", b"build-tools")
+# How the names of dependency fields end, and these names.
+END = re.compile(rb"-(?:depends|tools)")
 NAMES = (b"build-depends", b"build-tool-depends", b"build-tools", b"setup-depends")
 COLON = re.compile(rb"[ \t]*:(?:\s*(\{))?")
+# A dependency field at the front of a line, with its indent.
+FIELD = re.compile(rb"\n([ \t]*)(?:build-(?:tool-)?depends|build-tools|setup-depends)[ \t]*:")
 INLINE = re.compile(rb"[{}\n]")
 BLANKS, BRACES, LINE = b" \t", b"{}", ord("\n")
 COMMENT = re.compile(rb"(?m)^[ \t]*--[^\n]*$")
-NAME = re.compile(rb"(?:\A|,)\s*([A-Za-z0-9]+(?:-[A-Za-z0-9]+)*)")
+NAME = re.compile(rb",\s*([A-Za-z0-9]+(?:-[A-Za-z0-9]+)*)")
 # Sections that are built only for a local package. They begin at the front of a line, and so does the next element.
-SUITES, NEXT = (b"\ntest-suite", b"\nbenchmark"), re.compile(rb"\n[a-z]")
+SUITE, NEXT = re.compile(rb"\n(?:test-suite|benchmark)"), re.compile(rb"\n[a-z]")
 HAS_SETUP = re.compile(rb"build-type[ \t]*:\s*(?:simple|configure|make)\b")
 OF_SETUP = {b"base", b"Cabal"}
 
@@ -49,8 +51,24 @@ def beginning(low, end):
 def dependency_fields(data, low):
     """Yields the place and the text of each dependency field. `low` is the same text in lower case. No text of a field
     is looked through again."""
+    return braced_fields(data, low) if b"{" in low or b"}" in low else plain_fields(data, low)
+
+
+def plain_fields(data, low):
+    """Yields the dependency fields of a text without braces. Each is at the front of a line."""
+    done = 0
+    for it in FIELD.finditer(b"\n" + low):
+        begin, start, size = it.end(1) - 1, it.end() - 1, it.end(1) - it.start(1)
+        if start > done:
+            last = ending(size).search(data, start)
+            done = last.start() if last else len(data)
+            yield begin, data[start:done]
+
+
+def braced_fields(data, low):
+    """Yields the dependency fields of a text that can have some within braces or on a line with other elements."""
     done, close = 0, -1
-    for end in sorted(at + len(it) for it in ENDS for at in places(low, it)):
+    for end in [it.end() for it in END.finditer(low)]:
         found = beginning(low, end) if end > done else None
         colon = COLON.match(low, end) if found else None
         if not colon:
@@ -69,35 +87,25 @@ def dependency_fields(data, low):
 
 def suites(low):
     """Returns where test suites and benchmarks begin, and where each of them ends."""
-    found = []
-    for at in sorted(at for word in SUITES for at in places(low, word)):
-        end = NEXT.search(low, at + 1)
-        found.append((at, end.start() if end else len(low)))
-    return [it[0] for it in found], [it[1] for it in found]
+    begins = [it.start() for it in SUITE.finditer(low)]
+    ends = [NEXT.search(low, at + 1) for at in begins]
+    return begins, [it.start() if it else len(low) for it in ends]
 
 
 def mentioned(data):
     """Returns the names in the dependency fields of a file, with the implicit ones of a setup script; and those of them
     outside of test suites and benchmarks."""
     low = data.lower()
-    unsaid = set() if any(HAS_SETUP.match(low, at) for at in places(low, b"build-type")) else OF_SETUP
+    unsaid = set() if HAS_SETUP.search(low) else OF_SETUP
     begins, ends = suites(low)
     full, lean = set(unsaid), set(unsaid)
     for at, text in dependency_fields(data, low):
-        found = NAME.findall(COMMENT.sub(b"", text) if b"--" in text else text)
+        found = NAME.findall(b"," + (COMMENT.sub(b"", text) if b"--" in text else text))
         full.update(found)
         suite = bisect.bisect_right(begins, at) - 1
         if suite < 0 or at >= ends[suite]:
             lean.update(found)
     return full, lean
-
-
-def places(text, word):
-    """Yields the places of a word in a text."""
-    at = text.find(word)
-    while at >= 0:
-        yield at
-        at = text.find(word, at + 1)
 
 
 def of_units(records):
@@ -115,16 +123,22 @@ class Closure:
 
     def __init__(self, index, records, can_read, newest):
         self.index, self.units, self.can_read, self.newest, self.records = index, of_units(records), can_read, newest, len(records)
-        self.versions, self.full, self.lean, self.sizes = {}, {}, {}, {}
+        self.listed, self.versions, self.full, self.lean, self.sizes = {}, {}, {}, {}, {}
 
     def is_good(self, data):
         """Returns whether the planner reads a file."""
         return len(data) <= MOST and (not self.can_read or self.can_read(data))
 
+    def there(self, name):
+        """Returns all versions of a name in the index."""
+        if name not in self.listed:
+            self.listed[name] = self.index.versions(name)
+        return self.listed[name]
+
     def read(self, name):
         """Reads the files of a name: all versions, or at most `newest`, the readable ones first."""
         good, bad, full, lean = {}, {}, set(), set()
-        there = sorted(self.index.versions(name), key=by_number, reverse=True)
+        there = sorted(self.there(name), key=by_number, reverse=True)
         # So many are refused, whatever stands in them.
         is_refused = not self.newest and len(there) > MOST_FILES
         for version in [] if is_refused else there:
@@ -145,30 +159,37 @@ class Closure:
         """Returns the names that are reached from `roots`, and whether those are left out that only suites reach, since
         all are too many. Local names have no versions."""
         for name in locals_:
-            self.versions[name], self.sizes[name] = [], 0
+            self.listed[name], self.versions[name], self.sizes[name] = [], [], 0
             self.full[name] = self.lean[name] = self.units.get(name, set())
-        found = self.spread(roots, self.full, True)
-        return (self.spread(roots, self.lean, False), True) if self.is_too_much(found) else (found, False)
+        lean = self.spread(roots, self.lean, False)
+        full = self.spread(lean, self.full, True)
+        return (lean, True) if self.is_too_much(full) else (full, False)
 
     def spread(self, roots, mentions, can_stop):
-        """Returns all names that mentions reach. With `can_stop` it stops once they are too many."""
-        found, rest, files = set(roots), list(roots), 0
-        while rest and not (can_stop and files > MOST_FILES):
+        """Returns all names that mentions reach. With `can_stop` it stops once their files are too many, whatever stands in
+        those that aren't read yet."""
+        found, rest, files = set(roots), list(roots), self.count(roots)
+        while rest and not (can_stop and self.is_too_many(files)):
             name = rest.pop()
             if name not in self.versions:
                 self.read(name)
-            files += len(self.versions[name])
             new = mentions[name] - found
             found |= new
             rest.extend(new)
-        return found - set(rest)
+            files += self.count(new)
+        return found
 
     def count(self, names):
-        return sum(len(self.versions[it]) for it in names)
+        """Returns how many files of these names are kept."""
+        counts = (len(self.there(it)) for it in names)
+        return sum(min(it, self.newest) for it in counts) if self.newest else sum(counts)
+
+    def is_too_many(self, files):
+        return self.records + files > MOST_FILES
 
     def is_too_much(self, names):
-        """Returns whether the planner would refuse the files of these names as too many."""
-        return self.records + self.count(names) > MOST_FILES or sum(self.sizes[it] for it in names) > MOST_BYTES
+        """Returns whether the planner would refuse the files of these names as too many, or as too large."""
+        return self.is_too_many(self.count(names)) or sum(self.sizes[it] for it in names) > MOST_BYTES
 
     def fitting(self, names):
         """Returns how many versions of each name the planner would accept, or 0 if not even one."""

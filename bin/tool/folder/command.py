@@ -1,5 +1,6 @@
 """`cabal-plan folder`: prepares a cabal project for the planner."""
 
+import gc
 import os
 import shlex
 import sys
@@ -69,6 +70,8 @@ def printed(words):
 
 
 def main(words):
+    # An index has many places, none of which is in a cycle: looking for cycles among them takes long.
+    gc.disable()
     asked, further = words_of(words)
     program = chosen_program(asked.program or FRONT)
     rewriter = chosen_program(asked.modern_headers, MODERN) if asked.older_headers else None

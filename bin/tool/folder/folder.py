@@ -155,9 +155,17 @@ def rewrite_index(to, places, rewriter):
                 continue
             check_found(it)
             if it.is_rewritten():
-                to.remove(places[it.path])
-                to.put(it.path, it.text)
+                replace_file(to, places[it.path], it)
                 yield f"{it.path}\t{'; '.join(sorted(it.kinds))}\n"
+
+
+def replace_file(to, place, frame):
+    """Puts the text of a frame in the place of its older file, or of the link that leads to it."""
+    if place == frame.path:
+        to.rewrite(place, frame.text)
+    else:
+        to.remove(place)
+        to.put(frame.path, frame.text)
 
 
 def fill_installed(to, units):

@@ -4,8 +4,10 @@ Input: a path. Output: an index with the versions of a name, and the bytes of ea
 stream for the places of its files, and only these are kept. Of several entries of one path the last counts."""
 
 import contextlib
+import functools
 import os
 import re
+import struct
 import time
 
 from tool.folder.progress import Progress
@@ -13,19 +15,22 @@ from tool.input import MOST, front
 from tool.names import is_name
 from tool.refusal import Refusal
 
-BLOCK, CHUNK = 512, 1 << 22
+BLOCK, CHUNK = 512, 1 << 18
 # The marks of a tar's entry: a file, a long name of the next entry, or records about it.
 FILE, LONG_NAME, RECORDS, CABAL = (b"0", b"\0"), b"L", b"x", b".cabal\0"
 LONGER = (LONG_NAME, RECORDS)
+# The parts of a head: the name, the digits of the size and what ends them, the kind, the mark of a tar, and the name's prefix.
+HEAD, OCTAL, STOPS, USTAR = struct.Struct("100s24x11sc20xc100x5s83xc"), b"01234567", (b"\0", b" "), b"ustar"
 
 
 def is_version(text):
     return is_name(text, "version")
 
 
+@functools.lru_cache(maxsize=1 << 14)
 def by_number(text):
     """Returns the key by which versions are compared."""
-    return [int(it) for it in text.split(".")]
+    return tuple(map(int, text.split(".")))
 
 
 class Folder:
@@ -102,6 +107,8 @@ class Tar:
         """Finds the places of all `.cabal` files, and returns how many there are."""
         at, buffer, start, longer, larger = 0, b"", 0, None, None
         while True:
+            if longer is None and larger is None:
+                at = self.scan_plain(buffer, start, at)
             place = at - start
             if place + BLOCK > len(buffer):
                 buffer, start, place = self.bytes_at(at, CHUNK), at, 0
@@ -124,6 +131,20 @@ class Tar:
                     self.note(longer or name_of(buffer[place : place + BLOCK]), at + BLOCK, size)
                 longer = larger = None
             at += BLOCK + (size + BLOCK - 1) // BLOCK * BLOCK
+
+    def scan_plain(self, buffer, start, at):
+        """Finds the places of the plain files from this byte on: those with a short name, and a size in octal digits. Returns
+        the byte of the first other entry, or of one that isn't whole in the buffer, whose first byte is at `start`."""
+        place, last, end = at - start, len(buffer) - BLOCK, self.size - start
+        while place <= last:
+            name, digits, stop, kind, tar, prefix = HEAD.unpack_from(buffer, place)
+            size, begin = octal(digits), place + BLOCK
+            if tar != USTAR or kind not in FILE or prefix != b"\0" or stop not in STOPS or size is None or begin + size > end:
+                break
+            if CABAL in name:
+                self.note(name[: name.index(0)], start + begin, size)
+            place = begin + (size + BLOCK - 1) // BLOCK * BLOCK
+        return start + place
 
     def about_next(self, kind, at, size):
         """Returns the path and the size that an entry gives the next one, or none for each."""
@@ -155,8 +176,13 @@ class Tar:
     def note(self, path, at, size):
         """Keeps the place of a file if it is the `.cabal` file of a version."""
         parts = path.decode("utf-8", "replace").removeprefix("./").split("/")
-        if len(parts) == 3 and parts[2] == f"{parts[0]}.cabal" and is_version(parts[1]) and is_name(parts[0], "package"):
-            self.places.setdefault(parts[0], {})[parts[1]] = at, size
+        if len(parts) != 3 or parts[2] != parts[0] + ".cabal":
+            return
+        known = self.places.get(parts[0])
+        if known is not None and (parts[1] in known or is_version(parts[1])):
+            known[parts[1]] = at, size
+        elif known is None and is_version(parts[1]) and is_name(parts[0], "package"):
+            self.places[parts[0]] = {parts[1]: (at, size)}
 
     def versions(self, name):
         """Returns the versions of a name."""
@@ -176,6 +202,12 @@ class Tar:
     def target(self, _name, _version):
         """Returns none: a link can't lead into a tar."""
         return None
+
+
+@functools.lru_cache(maxsize=1 << 14)
+def octal(digits):
+    """Returns the number of these octal digits, or none if they are something else. Many files have the same size."""
+    return None if digits.strip(OCTAL) else int(digits, 8)
 
 
 def number(field):

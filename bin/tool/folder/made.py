@@ -142,9 +142,9 @@ class Own:
             return name
         try:
             files.make_folder(NEW, self.handle)
-            with files.opened(NEW, self.handle) as handle:
+            with files.opened(NEW, self.handle) as handle, contextlib.closing(files.Filling(handle, self.new)) as to:
                 files.put(MARK, mark(handle, kind), handle)
-                fill(files.Filling(handle, self.new))
+                fill(to)
             files.rename(NEW, name, self.handle)
             self.made.add(name)
         except OSError as error:
