@@ -1,0 +1,84 @@
+"""Runs cells: each is one run of the proved program in a small folder, or two where a conflict is shrunk.
+
+Input: the room of what cells share, and a cell as an object. Output: its record as a line of JSON."""
+
+import contextlib
+import io
+import json
+import subprocess
+import time
+
+from tool import children
+from tool.ends import status_of_program
+from tool.files import Room
+from tool.folder.project import read_elements
+from tool.planner import NO_PLAN, Answer
+from tool.refusal import Refusal
+
+VERDICTS = ("plan", "no plan", "gave up", "refused")
+FAILED = "failed"
+PROGRAM, WORK = "program", "work"
+# The parts of a record that its cell says.
+FACTS = ("target", "name", "version", "compiler", "setting", "wanted", "words")
+
+
+def line_of(record):
+    """Returns a record as a line."""
+    return json.dumps(record, separators=(",", ":")).encode() + b"\n"
+
+
+class Runner:
+    """A worker: the room, and the number of the folder that it makes next."""
+
+    def __init__(self, path, number):
+        self.room, self.number, self.made = Room(path), number, 0
+
+    def fill(self, path, cell):
+        """Makes the folder of a cell: its texts, and links to what cells share."""
+        for at, place in cell["links"].items():
+            self.room.link(f"{path}/{at}", f"{self.room}/{place}")
+        for at, text in cell["texts"].items():
+            self.room.write(f"{path}/{at}", text.encode("utf-8", "surrogateescape"))
+
+    def program(self, where, words):
+        """Runs the program in a folder."""
+        try:
+            ran = children.run(
+                [f"{self.room}/{PROGRAM}", "plan", *words],
+                cwd=where, stdin=subprocess.DEVNULL, stdout=subprocess.PIPE, stderr=subprocess.PIPE,
+            )  # fmt: skip
+        except OSError as error:
+            raise Refusal(f"the program can't be run: {error.strerror}") from error
+        return status_of_program(ran.returncode), ran.stdout.decode("utf-8", "replace"), ran.stderr.decode("utf-8", "replace")
+
+    def record(self, cell):
+        """Runs a cell, and returns its record."""
+        self.made += 1
+        path = f"{WORK}/{self.number}/{self.made}"
+        self.fill(path, cell)
+        try:
+            where = f"{self.room}/{path}"
+            begun = time.monotonic()
+            status, output, error = self.program(where, cell["planning"])
+            reason = self.reason(where, cell["planning"]) if status == NO_PLAN and cell["shrink"] else ""
+            seconds = round(time.monotonic() - begun, 6)
+        finally:
+            self.room.remove(path)
+        verdict = VERDICTS[status] if status < len(VERDICTS) else FAILED
+        told = {"status": status, **{it: cell[it] for it in FACTS}}
+        return {"key": cell["key"], "verdict": verdict, **told, "seconds": seconds, "output": output, "error": error, "reason": reason}
+
+    def reason(self, where, planning):
+        """Returns what `cabal-plan why` prints of a folder without a plan."""
+        from tool.why import conflict
+        from tool.why.facts import Folder
+        from tool.why.texts import tell
+
+        status, output, error = self.program(where, [*planning, "--json", "--minimize-conflict-set"])
+        if status != NO_PLAN:
+            return ""
+        out = io.StringIO()
+        with contextlib.redirect_stdout(out):
+            tell(conflict.lines(Folder(where, planning), None, Answer(status, output, error), False))
+        read_elements.cache_clear()
+        return out.getvalue()
