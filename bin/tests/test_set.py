@@ -125,7 +125,7 @@ class Resumed(Set):
 
     def test_nothing_runs_twice(self):
         program = self.counting()
-        self.set(status=1, program=program) if False else self.run_script(self.words(program=program), where=self.s)
+        self.run_script(self.words(program=program), where=self.s)
         self.assertEqual(CELLS + 6, self.runs())
         before = self.lines()
         ran = self.run_script(self.words(program=program), where=self.s)
@@ -137,7 +137,10 @@ class Resumed(Set):
         self.runs()
         self.package("alone", "2", "base")
         self.run_script(self.words(program=program), where=self.s)
-        self.assertEqual(8, self.runs(), "the two versions of `alone` see no other one, and a new version is there")
+        self.assertEqual(4, self.runs(), "nothing else reaches `alone`, and its own versions don't see each other")
+        self.package("bytes", "2.0", "base  ")
+        self.run_script(self.words(program=program), where=self.s)
+        self.assertEqual(4 + 16 + 4 + 2, self.runs(), "bytes-2.0, the others that reach it, and the conflicts among them")
 
     def test_another_program_runs_all(self):
         self.set(status=1)

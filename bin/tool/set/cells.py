@@ -65,7 +65,7 @@ class Cells:
             self.lean.add(path)
             self.room.folder(path)
             for name in (it for it in reach.names if it not in reach.own and self.stock.names[it].versions):
-                self.room.link(f"{path}/{name}", f"{self.room}/index/{name}")
+                self.room.link(f"{path}/{name}", f"../../index/{name}")
 
     def lean_path(self, target, compiler):
         return f"lean/{self.numbers[target]}-{compiler.path.rpartition('/')[2]}"

@@ -147,7 +147,7 @@ def only(cells, name):
     if cell is None:
         raise Refusal(f"there is no cell {shown(name)}")
     task = cells.task(cell)
-    runner = Runner(cells.room, 0)
+    runner = Runner(cells.room, "hand")
     runner.fill("cell", task)
     ran = children.run([f"{cells.room}/{PROGRAM}", "plan", *task["planning"]], cwd=f"{cells.room}/cell")
     return status_of_program(ran.returncode)

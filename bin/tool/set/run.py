@@ -28,10 +28,10 @@ def line_of(record):
 
 
 class Runner:
-    """A worker: the room, and the number of the folder that it makes next."""
+    """A worker: the room, its own name, and how many cells it has run."""
 
-    def __init__(self, path, number):
-        self.room, self.number, self.made = Room(path), number, 0
+    def __init__(self, path, name):
+        self.room, self.name, self.made = Room(path), name, 0
 
     def fill(self, path, cell):
         """Makes the folder of a cell: its texts, and links to what cells share."""
@@ -54,7 +54,7 @@ class Runner:
     def record(self, cell):
         """Runs a cell, and returns its record."""
         self.made += 1
-        path = f"{WORK}/{self.number}/{self.made}"
+        path = f"{WORK}/{self.name}/{self.made}"
         self.fill(path, cell)
         try:
             where = f"{self.room}/{path}"

@@ -13,7 +13,7 @@ from tool.set.run import Runner, line_of
 
 
 def main():
-    runner = Runner(sys.argv[1], int(sys.argv[2]))
+    runner = Runner(*sys.argv[1:])
     for line in sys.stdin.buffer:
         for cell in json.loads(line):
             sys.stdout.buffer.write(line_of(runner.record(cell)))
