@@ -140,7 +140,7 @@ class Resumed(Set):
         self.assertEqual(4, self.runs(), "nothing else reaches `alone`, and its own versions don't see each other")
         self.package("bytes", "2.0", "base  ")
         self.run_script(self.words(program=program), where=self.s)
-        self.assertEqual(4 + 16 + 4 + 2, self.runs(), "bytes-2.0, the others that reach it, and the conflicts among them")
+        self.assertEqual(24 + 4, self.runs(), "bytes-2.0, the project, text and json, and the conflicts among these")
 
     def test_another_program_runs_all(self):
         self.set(status=1)

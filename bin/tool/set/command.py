@@ -81,6 +81,7 @@ def prepared(of, form, room):
     source.open()
     if form.is_rewritten:
         source = older.rewritten(source, room, of.modern_headers, say)
+        form.rewrite = lambda found, to: older.rewritten_files(found, to, of.modern_headers)
     return Cells(form, source, program, room, say)
 
 

@@ -145,6 +145,8 @@ class Form:
             if not found:
                 raise Refusal(f"{self.where}it has no {name}")
         self.pairs = self.paired(table.get("pairs"))
+        # What rewrites the files of projects with older headers, once that is known.
+        self.rewrite = None
 
     def named(self, table, key, keys):
         """Yields the tables of compilers or settings, each with its name and its place."""

@@ -96,6 +96,22 @@ def files_of(source, room):
             yield path
 
 
+def rewritten_files(found, room, given):
+    """Returns the files of a project, their bytes by their paths, those with older headers rewritten."""
+    where, paths = f"{OLDER}/project", sorted(found)
+    room.remove(where)
+    for at, path in enumerate(paths):
+        room.write(f"{where}/{at}.cabal", found[path])
+    names = [f"{at}.cabal" for at in range(len(paths))]
+    room.write(f"{where}/{LIST}", "".join(f"{it}\n" for it in names))
+    made = {}
+    for path, (_, kind, data) in zip(paths, run(program_of(given), f"{room}/{where}", names)):
+        if kind == REFUSED:
+            raise Refusal(f"{shown(path)} can't be rewritten: `modern-headers` refuses it")
+        made[path] = found[path] if data is None else data
+    return made
+
+
 def rewritten(source, room, given, say):
     """Returns an index that has the files of another one, those with older headers rewritten."""
     program, kinds = program_of(given), collections.Counter()

@@ -37,6 +37,8 @@ class Files:
 
     def __init__(self, target, number, form, stock, room):
         found = self.of_project(target, form) if target.project else {f"{target.package}.cabal": stock.source.data(target.package, target.version)}
+        if target.project and form.is_rewritten:
+            found.update(form.rewrite({path: data for path, data in found.items() if path not in FILES}, room))
         self.local, self.links, total = found.pop(LOCAL, b""), {}, hashlib.sha256()
         for path, data in sorted(found.items()):
             self.links[path] = f"{TARGETS}/{number}/{path}"
