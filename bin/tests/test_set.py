@@ -183,6 +183,14 @@ class Resumed(Set):
         self.set(preexec_fn=small, status=1)
         self.assertEqual(whole, self.records())
 
+    def test_a_worker_that_is_killed(self):
+        program = self.script("killing", f'#!/bin/sh\n[ -e {self.room}/well ] || kill -9 $PPID\nexec {PROGRAM} "$@"\n')
+        ran = self.run_script(self.words(program=program), where=self.s)
+        self.is_failure(ran, "a worker ended with status 137; what was made before stays")
+        self.write("well", "")
+        self.assertEqual(1, self.run_script(self.words(program=program), where=self.s).returncode)
+        self.assertEqual(CELLS, len(self.records()))
+
     def test_two_runs(self):
         with files_open(f"{self.s}/set.results"):
             self.is_failure(self.set(), "another run writes")

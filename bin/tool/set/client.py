@@ -4,6 +4,7 @@ It is run by Debian's Python, and uses nothing of this tool. What it sends to th
 
 import hashlib
 import itertools
+import os
 import sys
 import uuid
 
@@ -36,7 +37,7 @@ def run(data, digest, shared, batch):
     words = [sys.executable, "-EsS", where + "/tool/set/worker.py", shared or where + "/room", uuid.uuid4().hex]
     ran = subprocess.run(words, input=batch, stdout=subprocess.PIPE, stderr=subprocess.PIPE)
     if ran.returncode:
-        raise RuntimeError(ran.stderr.decode("utf-8", "replace").strip()[-300:])
+        raise RuntimeError((ran.stdout.splitlines() or [b"a worker ended"])[-1].decode("utf-8", "replace")[:300])
     return ran.stdout
 
 
@@ -82,9 +83,10 @@ def main():
         from distributed import Client, as_completed
 
         dask.config.set({"distributed.comm.timeouts.connect": SECONDS})
-        with Client(scheduler, timeout=SECONDS, set_as_default=False) as client:
-            client.wait_for_workers(1, timeout=120)
-            hand(client, as_completed, path, shared)
+        client = Client(scheduler, timeout=SECONDS, set_as_default=False)
+        client.wait_for_workers(1, timeout=120)
+        hand(client, as_completed, path, shared)
+        client.close()
         return 0
     except ImportError as error:
         fault = f"{sys.executable} has no dask ({error}): Debian's package is python3-distributed"
@@ -95,4 +97,5 @@ def main():
 
 
 if __name__ == "__main__":
-    sys.exit(main())
+    # (a client that has lost its scheduler would wait for it at its end)
+    os._exit(main())

@@ -14,12 +14,12 @@ from tool.children import child
 from tool.ends import status_of_program
 from tool.files import scratch
 from tool.refusal import Refusal, shown
-from tool.set.run import WORK
+from tool.set.run import FAULT, WORK
 
 PYTHON = "/usr/bin/python3"
 HERE = os.path.dirname(os.path.abspath(__file__))
 CLIENT, TOOL = f"{HERE}/client.py", os.path.dirname(HERE)
-ROOM, SENT, FAULT = "room", "sent", b"fault: "
+ROOM, SENT = "room", "sent"
 # What of the room a worker doesn't need.
 UNSENT = {f"{ROOM}/{it}" for it in (WORK, SENT, "older", "modern", ".made")}
 

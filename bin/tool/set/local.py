@@ -12,6 +12,7 @@ import threading
 from tool.children import SECONDS
 from tool.ends import status_of_program
 from tool.refusal import Refusal
+from tool.set.run import FAULT
 
 WORKER = f"{os.path.dirname(os.path.abspath(__file__))}/worker.py"
 # How many cells a worker is given at a time, and how many lines wait at most.
@@ -78,6 +79,8 @@ class Pool:
             pass
         for _ in batch:
             line = worker.stdout.readline()
+            if line.startswith(FAULT):
+                raise Refusal(f"{line[len(FAULT) :].decode().strip()}; what was made before stays")
             if not line.endswith(b"\n"):
                 raise Refusal(f"a worker ended with status {status_of_program(worker.wait())}; what was made before stays")
             self.put(line)

@@ -18,6 +18,8 @@ from tool.refusal import Refusal
 VERDICTS = ("plan", "no plan", "gave up", "refused")
 FAILED = "failed"
 PROGRAM, WORK = "program", "work"
+# How a line begins that is no record, but says why a worker ends.
+FAULT = b"fault: "
 # The parts of a record that its cell says.
 FACTS = ("target", "name", "version", "compiler", "setting", "wanted", "words")
 
