@@ -83,7 +83,7 @@ def main():
         from distributed import Client, as_completed
 
         dask.config.set({"distributed.comm.timeouts.connect": SECONDS})
-        client = Client(scheduler, timeout=SECONDS, set_as_default=False)
+        client = Client(scheduler, timeout=SECONDS)
         client.wait_for_workers(1, timeout=120)
         hand(client, as_completed, path, shared)
         client.close()
