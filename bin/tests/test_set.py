@@ -255,7 +255,7 @@ class Changes(Set):
         self.package("json", "1.5", "base >=5")
         out = self.set("--against=old.results", status=1).out
         self.assertIn("no plan   app  old  newest  broken\n    no plan: ", out)
-        self.assertIn("6 broken", out)
+        self.assertIn("10 broken", out)
 
     def test_an_earlier_run_that_is_not_there(self):
         self.is_failure(self.set("--against=nothing"), "nothing can't be read")
@@ -274,9 +274,9 @@ class Bounds(Set):
         self.assertEqual({"1.5": "no plan", "2.0": "plan"}, found["bounds"][2]["bounds"][1]["versions"])
 
     def test_own_bounds_are_put_aside(self):
-        self.write("s/app/app.cabal", PACKAGE.format("app", "0.1", "base, json >=2 && <2.0, text"))
+        self.write("s/app/app.cabal", PACKAGE.format("app", "0.1", "base, json >=2 && <2.0"))
         self.write("s/set.toml", SET.replace('project = "app"', 'project = "app"\nbounds = true\nwanted = false').replace("all = true", 'package = "alone"'))
-        self.assertIn("    json >=1.5 && <2.1,\n    text", self.set(status=0).out)
+        self.assertIn("    json >=1.5 && <2.1\n", self.set(status=0).out)
 
     def test_ranges_have_exactly_the_versions_that_plan(self):
         draw = random.Random(1)
@@ -353,8 +353,10 @@ class Example(Room):
     """The example, from a fresh clone."""
 
     def test_it_plans_within_ten_seconds(self):
-        begun = time.monotonic()
+        # (seconds of the processor, since others may use the machine)
+        seconds = lambda: sum(resource.getrusage(resource.RUSAGE_CHILDREN)[:2])
+        begun = seconds()
         ran = self.run_script([f"{TOP}/bin/cabal-plan", "set", f"--program={PROGRAM}", f"--results={self.room}/r", f"{TOP}/examples/set/set.toml"])
-        self.assertLess(time.monotonic() - begun, 10)
+        self.assertLess(seconds() - begun, 10)
         self.assertEqual(1, ran.returncode, ran.err)
         self.assertIn("52 cells: 38 plan, 14 no plan; 2 wanted without a plan", ran.out)
