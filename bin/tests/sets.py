@@ -2,6 +2,7 @@
 
 import json
 import os
+import time
 
 from tests.rooms import TOP, Room
 
@@ -85,6 +86,15 @@ class Set(Room):
             found = len(file.readlines())
         os.remove(path)
         return found
+
+    def wait_for(self, cells):
+        """Waits until so many cells are done."""
+        path, end = f"{self.s}/set.results/cells.jsonl", time.monotonic() + 200
+        while time.monotonic() < end:
+            if os.path.exists(path) and len(self.lines()) >= cells:
+                return
+            time.sleep(0.02)
+        self.fail("no cell is done")
 
 
 __all__ = ["PACKAGE", "PROGRAM", "RECORD", "SET", "Set"]

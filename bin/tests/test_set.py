@@ -215,12 +215,13 @@ class Resumed(Set):
         slow = self.script("slow", f'#!/bin/sh\nsleep 0.2\nexec {PROGRAM} "$@"\n')
         for number in (signal.SIGINT, signal.SIGTERM):
             with subprocess.Popen([*HEEDED, *self.words(program=slow)], cwd=self.s, env=self.environment(), stdout=subprocess.PIPE, stderr=subprocess.PIPE) as ran:
-                time.sleep(1.5)
+                self.wait_for(1)
                 ran.send_signal(number)
                 _, err = ran.communicate()
             self.assertEqual((128 + number, ["cells.jsonl"]), (ran.returncode, os.listdir(f"{self.s}/set.results")), err)
             self.assertEqual(1, err.count(b"\n"), err)
-        self.assertTrue(self.records())
+            self.assertTrue(self.records())
+            shutil.rmtree(f"{self.s}/set.results")
 
 
 def files_open(folder):

@@ -4,7 +4,6 @@ import os
 import shutil
 import socket
 import subprocess
-import time
 import unittest
 
 from tests.sets import PROGRAM, Set
@@ -59,15 +58,6 @@ class Cluster(Set):
             [*self.words("--engine=dask", f"--scheduler={self.address}", *words, program=self.slow)],
             cwd=self.s, env=self.environment(), stdout=subprocess.PIPE, stderr=subprocess.PIPE,
         )  # fmt: skip
-
-    def wait_for(self, cells):
-        """Waits until so many cells are done."""
-        path, end = f"{self.s}/set.results/cells.jsonl", time.monotonic() + 200
-        while time.monotonic() < end:
-            if os.path.exists(path) and len(self.lines()) >= cells:
-                return
-            time.sleep(0.02)
-        self.fail("no cell is done")
 
     def local(self):
         """Returns the records of a local run."""
