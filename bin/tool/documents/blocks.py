@@ -170,6 +170,9 @@ def of_page(page, known):
             yield answer(page, first, lines, known)
 
 
+SET = "examples/set"
+
+
 def differs(folder, case):
     """Returns how the files of a case differ from those of its folder."""
     files, found = files_of(f"{TOP}/{folder}"), []
@@ -184,7 +187,8 @@ def of_folders(known):
     """Yields the faults of each folder of examples, and of each case over one."""
     there = folders()
     named = {case.name for case in known}
-    for folder in there:
+    # (the tests of `cabal-plan set` are over its folder, which the program doesn't plan as it is)
+    for folder in (it for it in there if it != SET):
         yield [] if folder in named else [Failure(PATH, 1, f"there is no case {folder}")]
     for case in known:
         if case.name in there:
