@@ -41,6 +41,11 @@ def run(data, digest, shared, batch):
     return ran.stdout
 
 
+def same(data):
+    """Returns what was sent, on a worker."""
+    return data
+
+
 def batches(size):
     """Yields the cells of standard input, as many at a time."""
     while True:
@@ -62,7 +67,8 @@ def hand(client, as_completed, path, shared):
     with open(path, "rb") as file:
         data = file.read()
     digest = hashlib.sha256(data).hexdigest()[:32]
-    sent = client.scatter(data, broadcast=True, hash=True)
+    # (a task, which dask runs again where the worker that has its result is lost)
+    sent = client.submit(same, data, key=f"cabal-plan-set-files-{digest}")
     threads = max(1, sum(client.nthreads().values()))
     left = batches(max(1, min(MOST, count() // (WAITING * threads))))
     submit = lambda batch: client.submit(run, sent, digest, shared, batch, pure=False, key=f"cabal-plan-set-{uuid.uuid4().hex}")
