@@ -45,10 +45,9 @@ def example(folder):
     return Project(os.path.basename(folder), local, index_of(f"{folder}/index"))
 
 
-def real(index, rewritten):
+def real(index, ours):
     """Yields each package of an index as the local one, over the whole index. The local package hides its own file
-    there. `rewritten` returns the text that this program can read."""
-    ours = {key: rewritten(text) for key, text in index.items()}
+    there. `ours` has the texts for this program."""
     for key in sorted(index):
         name = f"{key[0]}.cabal"
         yield Project(key[0], {name: index[key]}, index, {name: ours[key]}, ours, True)

@@ -3,8 +3,8 @@
 import json
 import subprocess
 
-from tool.folder import older
 from tool.elements import Misread, Section, elements
+from tool.input import decoded
 from older.rewriter import BadOutput
 from older.rows import class_of, error_of
 from older.tokens import flat, plain
@@ -21,7 +21,7 @@ def formed(it):
 
 def in_python(content):
     try:
-        return {"elements": [formed(it) for it in elements(older.decoded(content)[0])[0]]}
+        return {"elements": [formed(it) for it in elements(decoded(content))]}
     except Misread as error:
         return {"refused": str(error)}
 

@@ -1,14 +1,13 @@
-"""The rewriter of older files. In: its path, or none for the one in Python, and files. Out: the bytes of each, or its refusal."""
+"""The rewriter of older files. In: the program, or none for the proved one, and files. Out: the bytes of each, or its refusal."""
 
-import os
+import io
 import re
-import subprocess
 
-from tool import files as own_files
-from tool.folder import older
+from tool import files as own_files, modern
+from tool.asked import program as chosen
+from tool.program import MODERN
 
-LIST = "list"
-REFUSED = re.compile(r"refused (.*?)(?::(\d+))? ([A-Za-z0-9]+)(?: .*)?")
+PATH = re.compile(rb"(?:unchanged|rewritten|missing) (.*)\n|refused (.*?)(?::\d+)? [A-Za-z0-9]+\n")
 
 
 class Refused:
@@ -22,69 +21,33 @@ class BadOutput(Exception):
     """The program's output isn't one of the frames that were agreed on."""
 
 
+def answer(frame):
+    """Returns what stands in for a file: its bytes, a refusal, or none if it stays as it is."""
+    if frame.is_refused():
+        return Refused(frame.line, frame.cause)
+    return frame.text if frame.is_rewritten() else None
+
+
 def rewritten(program, contents):
-    """Returns what stands in for each file: its bytes, or a refusal. The files are paths with their contents."""
-    if program is None:
-        return {path: in_python(content) for path, content in contents.items()}
-    names = {path: f"{number}.cabal" for number, path in enumerate(contents)}
-    files = {names[path]: content for path, content in contents.items()}
-    files[LIST] = "".join(f"{it}\n" for it in names.values()).encode()
+    """Returns what stands in for each file: its bytes, or a refusal. The files are keys with their contents."""
+    names = {f"{number}.cabal": key for number, key in enumerate(contents)}
     with own_files.new_room("older-headers-") as room:
-        for name, content in files.items():
-            room.write(name, content)
-        ran = subprocess.run([os.path.abspath(program), LIST], cwd=room, stdout=subprocess.PIPE)
-    answers = dict(unframed(ran.stdout))
-    if list(answers) != list(names.values()):
-        raise BadOutput(f"{program} ends with {ran.returncode}, and answers for {len(answers)} of {len(names)} files")
-    found = {path: answers[name] for path, name in names.items()}
-    return {path: contents[path] if it is None else it for path, it in found.items()}
-
-
-def in_python(content):
-    try:
-        return older.rewritten(content)[0]
-    except older.Misread as error:
-        return Refused(error.line, str(error).rpartition(" at line ")[0])
+        for name, key in names.items():
+            room.write(name, contents[key])
+        answers = {names[it.path]: answer(it) for it in modern.frames(chosen(program, MODERN), room, list(names))}
+    return {key: contents[key] if it is None else it for key, it in answers.items()}
 
 
 def unframed(output):
-    """Yields each path with its answer, which is none for a file that stays as it is.
-
-    The frames are `unchanged PATH`; `rewritten PATH`, lines of changes, `bytes SIZE`, so many bytes and a line end; and
-    `refused PATH[:LINE] CAUSE`."""
-    at = 0
-    while at < len(output):
-        line, at = line_at(output, at)
-        kind, _, path = line.partition(" ")
-        if kind == "unchanged":
-            yield path, None
-        elif kind == "rewritten":
-            content, at = content_at(output, at)
-            yield path, content
-        elif REFUSED.fullmatch(line):
-            place, number, cause = REFUSED.fullmatch(line).groups()
-            yield place, Refused(int(number or 0), cause)
-        else:
-            raise BadOutput(f"no frame before byte {at}: {line}")
+    """Yields each path with its answer, which is none for a file that stays as it is. Missing files are left out."""
+    stream = io.BytesIO(output)
+    while found := PATH.match(output, stream.tell()):
+        path = (found[1] or found[2]).decode("utf-8", "replace")
+        frame = modern.Frames(stream).next(path, path)
+        if frame.word != modern.MISSING:
+            yield path, answer(frame)
+    if stream.tell() < len(output):
+        raise BadOutput(f"no frame before byte {stream.tell()}")
 
 
-def line_at(output, at):
-    """Returns the line at a place, and the place behind it."""
-    end = output.find(b"\n", at)
-    if end < 0:
-        raise BadOutput(f"the line at byte {at} has no end")
-    return output[at:end].decode("utf-8", "replace"), end + 1
-
-
-def content_at(output, at):
-    """Returns the bytes of a rewritten file behind its changes, and the place behind them."""
-    line, at = line_at(output, at)
-    while line.startswith("change "):
-        line, at = line_at(output, at)
-    word, _, size = line.partition(" ")
-    if word != "bytes" or not size.isdecimal() or output[at + int(size) : at + int(size) + 1] != b"\n":
-        raise BadOutput(f"no bytes of a file before byte {at}: {line}")
-    return output[at : at + int(size)], at + int(size) + 1
-
-
-__all__ = ["BadOutput", "Refused", "rewritten"]
+__all__ = ["BadOutput", "Refused", "rewritten", "unframed"]

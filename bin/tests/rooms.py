@@ -20,6 +20,23 @@ case "$1" in
 --info) echo '[("Target platform","x86_64-unknown-linux"),("Global Package DB","{database}")]' ;;
 esac
 """
+# A stand-in for `modern-headers`: it puts a header of 2.4 in front of files with another one, and refuses braces.
+REWRITER = """#!/usr/bin/env -S python3 -EsS
+import sys
+out = sys.stdout.buffer
+for path in (it for name in sys.argv[1:] for it in open(name, "rb").read().split(b"\\n")[:-1]):
+    data = open(path, "rb").read(1048577)
+    if data.startswith((b"cabal-version: 2.4", b"cabal-version: 3.")):
+        out.write(b"unchanged " + path + b"\\n")
+    elif len(data) > 1048576:
+        out.write(b"refused " + path + b" TooLarge\\n")
+    elif b"{" in data:
+        out.write(b"refused %b:%d UnclosedBrace\\n" % (path, data[: data.index(b"{")].count(b"\\n") + 1))
+    else:
+        text = b"cabal-version: 2.4\\n" + b"\\n".join(it for it in data.split(b"\\n") if not it.startswith(b"cabal-version"))
+        changes = b"change header\\n" + b"change build-tools 7\\n" * (b"build-tools" in data)
+        out.write(b"rewritten " + path + b"\\n" + changes + b"bytes %d\\n" % len(text) + text + b"\\n")
+"""
 # A script that tells that it was run, as a stranger's would do worse.
 EVIL = "#!/bin/sh\ntouch {}\n"
 SECONDS = 60
@@ -90,16 +107,20 @@ class Room(unittest.TestCase):
         ran.out, ran.err = (it.decode("utf-8", "replace") if it is not None else "" for it in (ran.stdout, ran.stderr))
         return ran
 
-    def folder(self, *words, program=None, **how):
-        """Runs `cabal-plan folder` in the project, with the index and the program of the room."""
-        planner = program or self.script("planner", "#!/bin/sh\necho plan\n")
-        return self.run_script([f"{TOP}/bin/cabal-plan", "folder", f"--index={self.room}/packages", f"--program={planner}", *words], **how)
+    def programs(self, planner=None, rewriter=None):
+        """Returns the words that name a planner and a rewriter; else they are stand-ins."""
+        planner = planner or self.script("planner", "#!/bin/sh\necho plan\n")
+        return [f"--program={planner}", f"--modern-headers={rewriter or self.script('rewriter', REWRITER)}"]
+
+    def folder(self, *words, program=None, rewriter=None, **how):
+        """Runs `cabal-plan folder` in the project, with the index and the programs of the room."""
+        return self.run_script([f"{TOP}/bin/cabal-plan", "folder", f"--index={self.room}/packages", *self.programs(program, rewriter), *words], **how)
 
     def is_untouched(self, before, besides=()):
         """Checks that all files of the room are as they were, except those at or below these paths."""
         after = listing(self.room)
         for found in (before, after):
-            for path in [it for it in found if it in ("asked", "planner") or any(it == at or it.startswith(f"{at}/") for at in besides)]:
+            for path in [it for it in found if it in ("asked", "planner", "rewriter") or any(it == at or it.startswith(f"{at}/") for at in besides)]:
                 del found[path]
         self.assertEqual(before, after)
 
@@ -120,4 +141,4 @@ class Room(unittest.TestCase):
             return file.read().splitlines()
 
 
-__all__ = ["CABAL", "EVIL", "GHC", "HEEDED", "PACKAGE", "RECORD", "TOP", "Room", "listing", "signal"]
+__all__ = ["CABAL", "EVIL", "GHC", "HEEDED", "PACKAGE", "RECORD", "REWRITER", "TOP", "Room", "listing", "signal"]

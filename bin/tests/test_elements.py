@@ -25,7 +25,7 @@ executable x { build-depends: { g, h
 
 
 def fields(text, name):
-    return [it for it in walk(elements(text)[0]) if isinstance(it, Field) and it.name == name]
+    return [it for it in walk(elements(text)) if isinstance(it, Field) and it.name == name]
 
 
 class Lines(unittest.TestCase):
@@ -67,7 +67,7 @@ class Large(unittest.TestCase):
 
     def test_one_long_line(self):
         begun = time.monotonic()
-        found, _ = elements("a {} " * 20000)
+        found = elements("a {} " * 20000)
         self.assertEqual(20000, len(found))
         self.assertTrue(all(isinstance(it, Section) for it in found))
         self.assertEqual(50000, len(entries(Field("build-depends", ["a," * 50000]))))

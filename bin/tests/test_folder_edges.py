@@ -92,7 +92,7 @@ class Indexes(Room):
 
     def cabal(self, *words, **how):
         """Runs `folder` with the index of cabal."""
-        return self.run_script([f"{TOP}/bin/cabal-plan", "folder", f"--program={self.script('planner', '#!/bin/sh')}", *words], **how)
+        return self.run_script([f"{TOP}/bin/cabal-plan", "folder", *self.programs(self.script("planner", "#!/bin/sh")), *words], **how)
 
     def packed(self, path, files, mode="w:gz"):
         """Makes a tar of these files."""

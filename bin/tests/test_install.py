@@ -1,10 +1,11 @@
 """`bin/install`: what it installs works alone, and it removes exactly that."""
 
+import hashlib
 import os
 import shutil
 import subprocess
 
-from tests.rooms import TOP, Room, listing
+from tests.rooms import REWRITER, TOP, Room, listing
 
 PLANNED = "../lib/cabal-plan/bin/cabal-plan"
 
@@ -20,6 +21,8 @@ class Install(Room):
         # Of the release alone, so that nothing is built.
         shutil.copytree(f"{TOP}/bin", f"{self.room}/top/bin", ignore=shutil.ignore_patterns("tests", "__pycache__"))
         shutil.copytree(f"{TOP}/dist", f"{self.room}/top/dist")
+        self.script("top/dist/modern-headers", REWRITER)
+        self.write("top/dist/modern-headers.sha256", f"{hashlib.sha256(REWRITER.encode()).hexdigest()}  modern-headers\n")
         self.write("top/installed.txt", "")
 
     def install(self, *words, **how):
@@ -39,6 +42,7 @@ class Install(Room):
         own = self.run_script([f"{TOP}/dist/cabal-plan", "plan", "--compiler=ghc-9.4.7"], f"{TOP}/examples/first")
         self.assertEqual((own.returncode, own.out), (planned.returncode, planned.out), planned.err)
         self.assertIn("usage: cabal-plan folder", self.command("folder", "--help").out)
+        self.rewrites()
         self.pages()
         once = listing(self.prefix)
         self.assertEqual(0, self.install().returncode)
@@ -47,6 +51,17 @@ class Install(Room):
         self.assertEqual((0, ""), (ran.returncode, ran.err))
         self.assertEqual(before, listing(self.prefix))
         self.is_failure(self.install("--uninstall"), "nothing is installed below")
+
+    def rewrites(self):
+        """Checks that the installed tool runs the second program beside it."""
+        self.write("src/project/main.cabal", "cabal-version: >=1.10\nname: main\nversion: 1\n")
+        words = [f"{self.prefix}/bin/cabal-plan", "folder", "--older-headers", f"--index={self.room}/packages"]
+        ran = self.run_script(words)
+        self.assertEqual(0, ran.returncode, ran.err)
+        self.assertIn("main.cabal stays as it is, and a rewritten copy of it is planned", ran.err)
+        self.script("prefix/lib/cabal-plan/dist/modern-headers", "another\n")
+        self.is_failure(self.run_script(words), "modern-headers isn't the program whose sum")
+        self.script("prefix/lib/cabal-plan/dist/modern-headers", REWRITER)
 
     def pages(self):
         """Checks the man page and the completions."""

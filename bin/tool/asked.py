@@ -36,12 +36,12 @@ def number(least, most=10**9):
     return read
 
 
-def program(asked):
-    """Returns the path of the program that was asked for, or of the one for the present sources."""
+def program(asked, name=None):
+    """Returns the path of the program that was asked for, or of the proved one of this name, else the planner."""
     if not asked:
-        from tool.program import built_program
+        from tool.program import PLANNER, built_program
 
-        return built_program()
+        return built_program(name or PLANNER)
     path = os.path.abspath(asked)
     if not os.path.isfile(path) or not os.access(path, os.X_OK):
         raise Refusal(f"there is no program {path}")

@@ -1,7 +1,6 @@
 """Reads the elements of a `.cabal` or project file as cabal does, older forms too.
 
-In: the text of a file. Out: its fields and sections as a tree, each with its line, the entries of a field with theirs,
-and the forms of the file that the planner doesn't read."""
+In: the text of a file. Out: its fields and sections as a tree, each with its line, and the entries of a field with theirs."""
 
 import re
 
@@ -9,11 +8,6 @@ NAME = re.compile(r"[A-Za-z0-9_.-]*[A-Za-z][A-Za-z0-9_.-]*")
 BLANK = " \t"
 ENTRY_MARKS, NAME_MARKS = re.compile(r"[{},]"), re.compile(r"[,\s]+")
 COLON, BRACE = re.compile(r"[ \t]*"), re.compile(r"[{}]")
-# The forms that the planner doesn't read.
-ONE_LINE = "braces on one line"
-OWN_LINE = "an opening brace on a line of its own"
-BEHIND = "text behind a closing brace"
-FIELD_BRACES = "a field with text beside its braces"
 TOO_DEEP = 200
 
 
@@ -44,10 +38,10 @@ class Section:
 
 
 class Reader:
-    """The state of a reading: the line, the offset in it, the number of open braces, and the forms found so far."""
+    """The state of a reading: the line, the offset in it, and the number of open braces."""
 
     def __init__(self, text):
-        self.lines, self.at, self.col, self.open, self.forms = [], 0, 0, 0, set()
+        self.lines, self.at, self.col, self.open = [], 0, 0, 0
         for number, line in enumerate(text.removeprefix("\ufeff").split("\n"), 1):
             line = line.removesuffix("\r").rstrip(BLANK)
             inner = line.lstrip(BLANK)
@@ -130,33 +124,20 @@ class Reader:
         end = self.brace(col)
         args = text[col:end].strip(BLANK)
         self.skip_to(end)
-        is_own = self.is_at_start() and self.has("{")
-        if not self.has("{") or (self.is_at_start() and not is_own):
+        if not self.has("{"):
             if is_inline:
                 raise Misread(line, "a section on one line without braces")
             return Section(name, args, self.elements(indent + 1, False, depth + 1), line)
-        self.forms |= {OWN_LINE} if is_own else set()
-        self.forms |= {BEHIND} if is_inline else set()
         return Section(name, args, self.braced(depth), line)
 
     def braced(self, depth):
         """Returns the elements between braces, the first of which comes next."""
-        opened = self.at
         self.skip_to(self.col + 1)
-        self.forms |= {ONE_LINE} if self.at == opened else set()
         self.open += 1
         found = self.elements(0, True, depth + 1)
         self.open -= 1
-        self.close()
-        return found
-
-    def close(self):
-        """Moves on behind a closing brace."""
-        alone = self.is_at_start()
-        at = self.at
         self.skip_to(self.col + 1)
-        if not alone or self.at == at:
-            self.forms.add(BEHIND)
+        return found
 
     def values(self, col, indent, is_inline, line):
         """Returns the values of a field whose colon ends at this offset, the line of the field, and those of its values."""
@@ -165,7 +146,7 @@ class Reader:
         is_next = self.at != at
         found, lines = [], []
         if self.has("{"):
-            self.braced_values(is_next, found, lines)
+            self.braced_values(found, lines)
         elif is_inline:
             self.inline_value(found, lines) if not is_next else None
         else:
@@ -192,25 +173,22 @@ class Reader:
         """Takes the value of a field behind a brace in its line: up to the next brace or the line's end."""
         self.take_to(self.brace(self.col), found, lines)
 
-    def braced_values(self, is_next, found, lines):
+    def braced_values(self, found, lines):
         """Takes the values of a field between braces."""
         line = self.number()
-        is_plain = self.rest() == "{" and not is_next
         self.skip_to(self.col + 1)
         while not self.is_over() and self.text.find("}", self.col) < 0:
             self.take(found, lines)
         if self.is_over():
             raise Misread(line, "a brace that nothing closes")
         end = self.text.index("}", self.col)
-        self.forms |= set() if is_plain and self.rest() == "}" else {FIELD_BRACES}
         self.take_to(end, found, lines)
         self.skip_to(end + 1)
 
 
 def elements(text):
-    """Returns the elements of a text, and its forms that the planner doesn't read."""
-    reader = Reader(text)
-    return reader.elements(0, False, 0), reader.forms
+    """Returns the elements of a text."""
+    return Reader(text).elements(0, False, 0)
 
 
 def split(field, is_braced):
@@ -239,19 +217,6 @@ def entries(field):
 def names(field):
     """Returns the names in a field between blanks and commas, each with its line."""
     return [(it, line) for value, line in zip(field.values, field.lines) for it in NAME_MARKS.split(value) if it]
-
-
-def printed(items, depth=0):
-    """Returns the text of elements, indented and without braces."""
-    found, blanks = [], "  " * depth
-    for it in items:
-        if isinstance(it, Section):
-            found.append(f"{blanks}{it.name} {it.args}".rstrip(BLANK) + "\n" + printed(it.items, depth + 1))
-        else:
-            first = it.values[:1] if it.values and it.values[0] != "{" else []
-            lines = [f"{blanks}{it.name}: {''.join(first)}".rstrip(BLANK)] + [f"{blanks}    {value}" for value in it.values[len(first) :]]
-            found.append("\n".join(lines) + "\n")
-    return "".join(found)
 
 
 def walk(items):

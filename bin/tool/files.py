@@ -102,10 +102,11 @@ def parent(top, path):
 
 
 class Filling:
-    """A new folder that is being filled. Its folders are made as they are needed."""
+    """A new folder that is being filled: its handle, and its path for programs that read there. Its folders are made as they
+    are needed."""
 
-    def __init__(self, handle):
-        self.handle = handle
+    def __init__(self, handle, path=None):
+        self.handle, self.path = handle, path
 
     @contextlib.contextmanager
     def _parent(self, path):
@@ -130,6 +131,11 @@ class Filling:
     def link(self, path, target):
         with self._parent(path) as (at, name):
             os.symlink(target, name, dir_fd=at)
+
+    def remove(self, path):
+        """Removes a file or a link."""
+        with self._parent(path) as (at, name):
+            os.unlink(name, dir_fd=at)
 
 
 def entries(handle):

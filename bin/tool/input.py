@@ -3,12 +3,16 @@
 Input: a path. Output: its bytes, or a refusal. A pipe or a device is neither waited for nor opened."""
 
 import os
+import re
 import stat
 
 from tool.refusal import Refusal, shown
 
 # The most bytes of a file, and the most files and bytes of all of them, that the program reads.
 MOST, MOST_FILES, MOST_BYTES = 1_048_576, 20_000, 268_435_456
+# The headers that the planner reads, and a file that begins with one.
+READ = ("2.4", "3.0", "3.4")
+HEADER = re.compile(rb"\A(?:\xef\xbb\xbf)?(?:[ \t]*(?:--[^\n]*)?\r?\n)*[ \t]*cabal-version[ \t]*:[ \t]*(\S+)[ \t]*\r?(?:\n|\Z)(?=\S|\s*\Z|[ \t]*(?:--|\r?\n))", re.I)
 
 
 def front(path):
@@ -42,3 +46,17 @@ def content(path):
     if len(data) > MOST:
         raise Refusal(f"{shown(path)} has more than {MOST} bytes, and the planner reads no more")
     return data
+
+
+def decoded(data):
+    """Returns the text of a file: UTF-8, or else Latin-1."""
+    try:
+        return data.decode("utf-8")
+    except UnicodeDecodeError:
+        return data.decode("latin-1")
+
+
+def is_read(data):
+    """Returns whether the planner reads the header of a file."""
+    found = HEADER.match(data)
+    return bool(found) and found[1].decode("latin-1") in READ

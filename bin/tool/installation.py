@@ -1,4 +1,4 @@
-"""Installs the program and the tool below a folder, and removes exactly what was installed.
+"""Installs the programs and the tool below a folder, and removes exactly what was installed.
 
 Input: the folder, such as `/usr/local`. A list of all that is made stands in `lib/cabal-plan`: the sum of each file, where
 each link leads, and each new folder. What has changed since, or isn't in the list, stays."""
@@ -12,7 +12,7 @@ import sys
 
 from tool import files, pages
 from tool.front import NAME
-from tool.program import RELEASE, TOP, built_program, release
+from tool.program import CRATES, SUM, TOP, built_program, release, released
 from tool.refusal import Refusal, read, shown
 
 HOME = f"lib/{NAME}"
@@ -51,16 +51,25 @@ def modules():
     return found
 
 
+def programs():
+    """Returns the files of the proved programs, each with its sum, and the name of the release."""
+    paths = {name: built_program(name) for name in CRATES}
+    version = release() if all(path == released(name) for name, path in paths.items()) else "unreleased"
+    found = []
+    for name, path in paths.items():
+        data = read(path)
+        found.append(Item(f"{HOME}/dist/{name}", data, mode=0o755))
+        found.append(Item(f"{HOME}/dist/{name}{SUM}", f"{hashlib.sha256(data).hexdigest()}  {name}\n".encode()))
+    return found, version
+
+
 def items():
     """Returns all that is installed."""
-    path = built_program()
-    program, name = read(path), release() if path == RELEASE else "unreleased"
+    found, version = programs()
     return [
-        Item(f"{HOME}/bin/{NAME}", read(f"{TOP}/bin/{NAME}"), mode=0o755), *modules(),
-        Item(f"{HOME}/dist/{NAME}", program, mode=0o755),
-        Item(f"{HOME}/dist/{NAME}.sha256", f"{hashlib.sha256(program).hexdigest()}  {NAME}\n".encode()),
-        Item(f"{HOME}/dist/VERSION", f"{name}\n".encode()),
-        Item(f"share/man/man1/{NAME}.1", pages.man(name).encode()),
+        Item(f"{HOME}/bin/{NAME}", read(f"{TOP}/bin/{NAME}"), mode=0o755), *modules(), *found,
+        Item(f"{HOME}/dist/VERSION", f"{version}\n".encode()),
+        Item(f"share/man/man1/{NAME}.1", pages.man(version).encode()),
         Item(f"share/bash-completion/completions/{NAME}", pages.bash().encode()),
         Item(f"share/zsh/site-functions/_{NAME}", pages.zsh().encode()),
         Item(f"share/fish/vendor_completions.d/{NAME}.fish", pages.fish().encode()),

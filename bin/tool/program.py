@@ -1,5 +1,5 @@
-"""The program for the present sources: the one that was built, or the release's. A program is run only if its bytes
-have the sum that is kept beside it."""
+"""The proved programs for the present sources: those that were built, or the release's. A program is run only if its
+bytes have the sum that is kept beside it."""
 
 import hashlib
 import os
@@ -16,14 +16,16 @@ def cache():
 TOP = os.path.dirname(os.path.dirname(os.path.dirname(os.path.realpath(__file__))))
 # The command that users call.
 FRONT = f"{TOP}/bin/cabal-plan"
-PROGRAM = "cabal_plan"
+# The proved programs, each with its crate.
+PLANNER, MODERN = "cabal-plan", "modern-headers"
+CRATES = {PLANNER: "cabal_plan", MODERN: "modern_headers"}
 # Outside the checkout: checkouts of the same sources share it, and the gate doesn't find it.
 OUT = f"{cache()}/cabal-plan"
-# The list of an installation, which has no sources; its program is the one beside it.
+# The list of an installation, which has no sources; its programs are those beside it.
 INSTALLED = f"{TOP}/installed.txt"
-# The program of the last release, for x86-64 Linux, and the sum of its sources.
+# The programs of the last release, for x86-64 Linux, and the sums of their sources.
 DIST = f"{TOP}/dist"
-RELEASE, RELEASED_SOURCES = f"{DIST}/cabal-plan", f"{DIST}/sources.sha256"
+RELEASED_SOURCES = f"{DIST}/sources.sha256"
 # What ends the name of the file with the sum of a program.
 SUM = ".sha256"
 # The folders of a crate that have its sources, with the end of the names of these files.
@@ -52,8 +54,8 @@ def is_module(name):
     return name[:1] not in ("", "-") and name.isascii() and name.replace("_", "a").replace("-", "a").isalnum()
 
 
-def sources(crates):
-    """Returns the paths of the program's sources, relative to the top."""
+def paths_of(crates):
+    """Returns the paths of the sources of crates, relative to the top."""
     found = ["HANDLES"]
     for crate in crates:
         for part, end in SOURCES.items():
@@ -63,23 +65,42 @@ def sources(crates):
     return sorted(found)
 
 
-def sum_of(top, crates, paths):
-    """Returns the sum of the sources at these paths, with the table of crates."""
-    total = hashlib.sha256(repr(crates).encode())
-    for path in paths:
-        content = read(f"{top}/{path}")
-        total.update(f"{path}\0{len(content)}\0".encode())
-        total.update(content)
-    return total.hexdigest()
+class Sources:
+    """The sources of a program as they stand now: its name, its crate, the crates that it has, each with those that it
+    uses, and the paths of their files."""
+
+    def __init__(self, name):
+        self.name, self.crate = name, CRATES[name]
+        self.crates = below(self.crate, table(), {})
+        self.paths = paths_of(self.crates)
+
+    def sum(self, top=TOP):
+        """Returns the sum of the sources in a folder, with the table of crates."""
+        total = hashlib.sha256(repr(self.crates).encode())
+        for path in self.paths:
+            content = read(f"{top}/{path}")
+            total.update(f"{path}\0{len(content)}\0".encode())
+            total.update(content)
+        return total.hexdigest()
+
+
+def words_in(path):
+    """Returns the words of each line of a small file, or none if it can't be read."""
+    try:
+        with open(path, encoding="utf-8") as file:
+            return [line.split() for line in file.read(4096).splitlines()]
+    except (OSError, UnicodeDecodeError):
+        return []
 
 
 def first_word(path):
-    """Returns the first word of a file, or none if it can't be read."""
-    try:
-        with open(path, encoding="utf-8") as file:
-            return (file.read(1024).split() or [""])[0]
-    except (OSError, UnicodeDecodeError):
-        return None
+    """Returns the first word of a file, or none."""
+    return next((words[0] for words in words_in(path) if words), None)
+
+
+def released(name):
+    """Returns the path of a program of the release."""
+    return f"{DIST}/{name}"
 
 
 def checked(path):
@@ -100,28 +121,27 @@ def release():
     return first_word(f"{DIST}/VERSION") or "unknown"
 
 
-def is_released(total):
-    """Returns whether the release was built of the sources with this sum, and is for this machine."""
-    return first_word(RELEASED_SOURCES) == total and os.uname().machine == "x86_64"
+def released_sum(crate):
+    """Returns the sum of the sources of which the release's program of a crate was built, or none."""
+    return next((words[0] for words in words_in(RELEASED_SOURCES) if words[-1:] == [crate]), None)
 
 
-def built_program():
-    """Returns the program for the present sources: the one that was built, or else the release's if it has the same
-    sources. If there is none, the program is built first. An installed tool has the one beside it."""
+def built_program(name=PLANNER):
+    """Returns the program of this name for the present sources: the one that was built, or else the release's if it has
+    the same sources. If there is none, the program is built first. An installed tool has the one beside it."""
     if os.path.isfile(INSTALLED):
-        return checked(RELEASE)
-    crates = below(PROGRAM, table(), {})
-    paths = sources(crates)
-    total = sum_of(TOP, crates, paths)
+        return checked(released(name))
+    sources = Sources(name)
+    total = sources.sum()
     # A program's name has the sum of its sources, and the file appears whole: nobody sees a part of it, or another's.
-    program = f"{OUT}/{PROGRAM}-{total}"
+    program = f"{OUT}/{sources.crate}-{total}"
     if os.access(f"{program}{SUM}", os.R_OK):
         return checked(program)
-    if is_released(total):
-        return checked(RELEASE)
+    if released_sum(sources.crate) == total and os.uname().machine == "x86_64":
+        return checked(released(name))
     if not OUT.startswith("/"):
         raise Refusal("there is no home folder, and nowhere to build the program: set HOME, or XDG_CACHE_HOME")
     from tool.build import build
 
-    build(program, crates, paths)
+    build(program, sources)
     return checked(program)

@@ -4,14 +4,13 @@ import os
 import shlex
 import sys
 
-from tool.asked import number
+from tool.asked import number, program as chosen_program
 from tool.folder.folder import made_folder
 from tool.folder.made import INDEX, INSTALLED
 from tool.folder.plan import run, still_skipped
 from tool.planner import Words
 from tool.ends import say as tell
-from tool.program import FRONT
-from tool.refusal import Refusal
+from tool.program import FRONT, MODERN
 from tool.words import is_path
 
 COMMANDS = ("plan", "freeze", "replay")
@@ -42,6 +41,7 @@ def words_of(given):
     parser.add_argument("--newest", metavar="N", type=number(1), help="keep the N newest versions of each name")
     parser.add_argument("--run", action="store_true", help="plan at once")
     parser.add_argument("--program", metavar="PATH", help="the planner; else the proved one of this tool")
+    parser.add_argument("--modern-headers", metavar="PATH", help="the program that rewrites older headers; else the proved one of this tool")
     return parser.parse_args(given[:at]), given[at + 1 :]
 
 
@@ -70,10 +70,9 @@ def printed(words):
 
 def main(words):
     asked, further = words_of(words)
-    program = os.path.abspath(asked.program or FRONT)
-    if not os.path.isfile(program) or not os.access(program, os.X_OK):
-        raise Refusal(f"there is no program {program}")
-    where, environment = made_folder(os.getcwd(), asked, named_paths(further), say)
+    program = chosen_program(asked.program or FRONT)
+    rewriter = chosen_program(asked.modern_headers, MODERN) if asked.older_headers else None
+    where, environment = made_folder(os.getcwd(), asked, rewriter, named_paths(further), say)
     told = plan_words(program, environment, further)
     if asked.run:
         return run(told, where, say if asked.older_headers else None)

@@ -55,7 +55,7 @@ class Own:
     """The folder of this tool in a project. Only one run at a time may change it. `say` prints a line."""
 
     def __init__(self, project, say):
-        self.project, self.say = files.open_folder(project), say
+        self.project, self.say, self.new = files.open_folder(project), say, f"{os.path.abspath(project)}/{OWN}/{NEW}"
         self.handle = self.lock = None
         self.made, self.is_new = set(), False
 
@@ -144,7 +144,7 @@ class Own:
             files.make_folder(NEW, self.handle)
             with files.opened(NEW, self.handle) as handle:
                 files.put(MARK, mark(handle, kind), handle)
-                fill(files.Filling(handle))
+                fill(files.Filling(handle, self.new))
             files.rename(NEW, name, self.handle)
             self.made.add(name)
         except OSError as error:

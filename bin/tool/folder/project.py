@@ -10,9 +10,8 @@ import re
 
 from tool.folder import conditions
 from tool.elements import Field, Misread, elements, walk
-from tool.folder.older import decoded
 from tool.folder.patterns import Entries
-from tool.input import content
+from tool.input import content, decoded
 from tool.refusal import Refusal
 
 FILES = ("cabal.project", "cabal.project.freeze", "cabal.project.local")
@@ -53,7 +52,7 @@ def read_elements(folder, file):
     if not os.path.exists(path):
         return []
     try:
-        return elements(decoded(content(path))[0])[0]
+        return elements(decoded(content(path)))
     except Misread as error:
         raise Refusal(f"{file} can't be read: {error}") from error
 

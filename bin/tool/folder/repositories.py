@@ -143,7 +143,7 @@ def local_repositories():
     if not path:
         return []
     try:
-        items = elements(content(path).decode("utf-8", "replace"))[0]
+        items = elements(content(path).decode("utf-8", "replace"))
     except Misread as error:
         raise Refusal(f"{path} can't be read: {error}; --index=PATH names an index") from error
     found = []

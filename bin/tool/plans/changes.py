@@ -46,7 +46,7 @@ def of_plan(plan):
 def of_freeze(text, path):
     """Returns what the constraints of a freeze file settle. `any.NAME` counts as NAME."""
     try:
-        items = elements(text)[0]
+        items = elements(text)
     except Misread as error:
         raise Refusal(f"{path}:{error.line}: neither a plan of `plan --json` nor a freeze file: {error}") from error
     found = Settled()

@@ -51,7 +51,7 @@ def text_of(path):
 def read(text):
     """Returns the elements of a text, or why it can't be read. The elements of the last texts are kept: don't change them."""
     try:
-        return elements(text)[0], None
+        return elements(text), None
     except Misread as error:
         return [], error
 

@@ -7,9 +7,7 @@ ghost use Rattle.cabal_lexer.specs.Tree.{Tree, in_front};
 ghost use Rattle.older_headers.specs.Answers.{IsAnswer, IsRead, IsRefusal, IsSaid, IsUnsaid, Says, heads_read, is_read_version, states_read};
 
 use crate::same::are_same;
-use cabal_lexer::{
-    one_tree, print_elements, read_elements, tree_or_fault,
-};
+use cabal_lexer::{one_tree, print_elements, read_elements, tree_or_fault};
 use older_layout::read_older;
 use older_rules::{Change, Modern, modern_elements};
 use plan_types::{Cause, Element, Fault, List, NoMemory, Text, joined_text};
