@@ -135,26 +135,25 @@ function line(from, to, width) {
 }
 
 function pictureOf(roots, nodes) {
-  const [there, told] = kept(roots, nodes), levels = levelsOf(there, edgesOf(there)), boxes = [], lines = [];
+  const [there, told] = kept(roots, nodes), levels = levelsOf(there, edgesOf(there)), boxes = [], lines = [], widths = new Map();
   place(levels);
   const all = levels.flat(), top = Math.min(...all.map(it => it.y)) - HEIGHT, bottom = Math.max(...all.map(it => it.y)) + HEIGHT;
   let x = 8;
   for (const items of levels) {
     const width = Math.max(...items.map(widthOf));
     for (const it of items) it.x = x;
-    it_width.set(items, width);
+    widths.set(items, width);
     x += width + WAY;
   }
   for (const items of levels) for (const it of items) {
     if (it.node) boxes.push(box(it));
-    for (const next of it.after) lines.push(line(it, next, it_width.get(items)));
+    for (const next of it.after) lines.push(line(it, next, widths.get(items)));
   }
   const width = x - WAY + 8, height = bottom - top;
   const picture = drawn("svg", { width, height, viewBox: `0 ${top} ${width} ${height}`, role: "img", "aria-label": `Picture of the plan: ${told}` }, ...lines, ...boxes);
   return [make("p", { class: "note" }, `Left to right: the order of the build. ${told[0].toUpperCase()}${told.slice(1)}.`), legend(),
     make("div", { class: "picture", tabindex: 0 }, picture)];
 }
-const it_width = new WeakMap();
 
 function legend() {
   return make("p", { class: "legend" }, ...["local", "store", "installed"].map(it => make("span", { class: it }, it)));

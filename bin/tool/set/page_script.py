@@ -134,7 +134,8 @@ function draw() {
   const first = byId("table").tBodies[0].querySelector("a");
   if (first) first.tabIndex = 0;
   const all = page.table.rows.length, noun = all === 1 ? "row" : "rows";
-  byId("found").textContent = page.view.length ? `${NUMBERS.format(page.view.length)} of ${NUMBERS.format(all)} ${noun}`
+  const dashed = page.table.rows.some(row => row.codes.some(it => it >= 0 && !isWanted(it))) ? ". Dashed: a plan isn't wanted" : "";
+  byId("found").textContent = page.view.length ? `${NUMBERS.format(page.view.length)} of ${NUMBERS.format(all)} ${noun}${dashed}`
     : "Nothing matches the search and the filters.";
   document.body.dataset.drawn = Math.round(performance.now());
 }
