@@ -3,10 +3,12 @@
 import base64
 import json
 import os
+import select
 import shutil
 import subprocess
 
 CHROMIUM = next(filter(None, map(shutil.which, ("chromium", "chromium-browser", "google-chrome"))), None)
+SECONDS = 30
 KEYS = {"Enter": 13, "Escape": 27, "ArrowLeft": 37, "ArrowUp": 38, "ArrowRight": 39, "ArrowDown": 40, "Tab": 9, "/": 191, "End": 35}
 
 
@@ -17,7 +19,7 @@ class Browser:
         here, there = os.pipe(), os.pipe()
         options = ["--headless", "--no-sandbox", "--disable-gpu", "--disable-dev-shm-usage", "--no-first-run", "--disable-background-networking"]
         words = [CHROMIUM, *options, "--remote-debugging-pipe", f"--user-data-dir={room}/browser", "about:blank"]
-        ways = ["sh", "-c", f'exec "$@" 3<&{here[0]} 4>&{there[1]}', "sh", *words]
+        ways = ["bash", "-c", f'exec "$@" 3<&{here[0]} 4>&{there[1]}', "bash", *words]
         self.ran = subprocess.Popen(
             ways, pass_fds=(here[0], there[1]), stdin=subprocess.DEVNULL, stdout=subprocess.DEVNULL, stderr=subprocess.DEVNULL,
             env={**os.environ, "HOME": room, "TMPDIR": room}, start_new_session=True,
@@ -30,11 +32,12 @@ class Browser:
         self.session = self.call("Target.attachToTarget", targetId=target, flatten=True)["sessionId"]
         for it in ("Runtime", "Log", "Page", "Network"):
             self.call(f"{it}.enable")
-        self.events = []
 
     def message(self):
         """Returns the next message of the browser."""
         while b"\0" not in self.left:
+            if not select.select([self.back], [], [], SECONDS)[0]:
+                raise TimeoutError("the browser doesn't answer")
             data = os.read(self.back.fileno(), 1 << 16)
             if not data:
                 raise EOFError("the browser has ended")
@@ -45,7 +48,6 @@ class Browser:
     def note(self, it):
         """Keeps what an event says."""
         what, of = it.get("method"), it.get("params", {})
-        self.events.append(what)
         if what == "Runtime.exceptionThrown":
             self.faults.append(str(of["exceptionDetails"]))
         elif what == "Runtime.consoleAPICalled" and of["type"] in ("error", "warning", "assert"):
@@ -54,8 +56,6 @@ class Browser:
             self.faults.append(of["entry"]["text"])
         elif what == "Network.requestWillBeSent":
             self.asked.append(of["request"]["url"])
-
-    events = []
 
     def call(self, method, **given):
         """Calls a method of the browser, and returns its answer."""
@@ -72,11 +72,9 @@ class Browser:
 
     def open(self, path):
         """Opens a page, and waits until it is loaded."""
-        for address in ("about:blank", f"file://{path}"):
-            self.events = []
-            self.call("Page.navigate", url=address)
-            while "Page.loadEventFired" not in self.events:
-                self.note(self.message())
+        self.call("Page.navigate", url=f"file://{path}")
+        if not self.until("location.protocol === 'file:' && document.readyState === 'complete'"):
+            raise TimeoutError(f"{path} isn't loaded")
 
     def value(self, text):
         """Returns the value of a JavaScript expression, which may be a promise."""
@@ -114,7 +112,7 @@ class Browser:
         self.session = None
         try:
             self.call("Browser.close")
-        except (EOFError, OSError):
+        except (EOFError, OSError, ValueError):
             pass
         try:
             self.ran.wait(10)

@@ -194,7 +194,7 @@ class InBrowser(Pages):
     def test_a_cell_by_keys(self):
         self.show(small())
         self.browser.key("/")
-        for key in ("ArrowDown", "ArrowDown", "ArrowDown", "ArrowRight"):
+        for key in ("ArrowDown", "ArrowDown", "ArrowDown", "ArrowRight", "ArrowRight"):
             self.browser.key(key)
         self.assertIn("solid", self.value("getComputedStyle(document.activeElement).outlineStyle"))
         self.browser.key("Enter")
