@@ -209,7 +209,7 @@ class InBrowser(Pages):
 
     def test_a_reason_and_the_page_of_a_package(self):
         self.show(small())
-        self.value("document.querySelector('.no-plan').click()")
+        self.value("document.querySelector('td .no-plan').click()")
         self.holds("document.querySelector('dialog[open] .help')")
         self.assertIn(REASON.split("\n", maxsplit=1)[0], self.value("document.querySelector('dialog pre').textContent"))
         self.value("document.querySelector('dialog .where a').click()")
@@ -243,14 +243,14 @@ class InBrowser(Pages):
 
     def test_sizes_themes_and_contrast(self):
         self.show(small())
-        self.value("document.querySelector('.no-plan').click()")
+        self.value("document.querySelector('td .no-plan').click()")
         self.holds("document.querySelector('dialog[open] .help')")
         for scheme in ("light", "dark"):
             self.browser.look(380, 800, scheme)
             self.assertGreaterEqual(self.value(CONTRAST), 4.5, scheme)
             self.assertLessEqual(self.value("document.documentElement.scrollWidth"), 380)
         self.value("document.querySelector('dialog').close()")
-        self.assertEqual(["rgb(21, 24, 27)"] * 2, [self.value("getComputedStyle(document.body).backgroundColor"), "rgb(21, 24, 27)"])
+        self.assertEqual("rgb(21, 24, 27)", self.value("getComputedStyle(document.body).backgroundColor"))
         self.value("document.getElementById('theme').click()")
         self.assertEqual("rgb(251, 251, 250)", self.value("getComputedStyle(document.body).backgroundColor"))
         self.is_quiet()
@@ -264,7 +264,7 @@ class InBrowser(Pages):
             self.browser.open(f"{self.at}/index.html")
             times.append(self.value("Number(document.body.dataset.drawn)"))
         self.assertIn("20,000 cells", self.value("document.getElementById('summary').textContent"))
-        self.assertLess(min(times), 2000)
+        self.assertLess(min(times), 2000, times)
         self.value("document.querySelector('.kind.no-plan').click()")
         self.assertIn("360 of 2,500 rows", self.value("document.getElementById('found').textContent"))
         self.is_quiet()

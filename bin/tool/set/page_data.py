@@ -176,12 +176,12 @@ class Cells:
         self.end += len(data)
 
     def of(self, name):
-        """Returns the cells of a package."""
+        """Returns the cells of a package, in an order that doesn't depend on that of the records."""
         found = []
         for start, length in self.packages[name]:
             self.file.seek(start)
-            found.append(json.loads(self.file.read(length)))
-        return found
+            found.append(self.file.read(length))
+        return [json.loads(it) for it in sorted(found)]
 
 
 class Table:
