@@ -9,6 +9,7 @@ from tool.ends import say as tell
 from tool.ends import status_of_program
 from tool.files import marked_room
 from tool.folder.repositories import index
+from tool.program import MODERN
 from tool.refusal import Refusal, shown
 from tool.set import against, form as forms, local, older
 from tool.set.bounds import Tables
@@ -80,8 +81,9 @@ def prepared(of, form, room):
     source = index(form.index and form.place(form.index))
     source.open()
     if form.is_rewritten:
-        source = older.rewritten(source, room, of.modern_headers, say)
-        form.rewrite = lambda found, to: older.rewritten_files(found, to, of.modern_headers)
+        rewriter = asked.program(of.modern_headers, MODERN)
+        source = older.rewritten(source, room, rewriter, say)
+        form.rewrite = lambda found, to: older.rewritten_files(found, to, rewriter)
     return Cells(form, source, program, room, say)
 
 

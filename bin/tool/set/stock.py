@@ -10,10 +10,9 @@ import sys
 from tool.folder.closure import Closure, of_units
 from tool.folder.compiler import Choice, compiler as asked_compiler
 from tool.folder.index import by_number
-from tool.folder.older import is_read
 from tool.folder.records import END, Record, records
 from tool.folder.repositories import Merged
-from tool.input import MOST_BYTES, MOST_FILES, content
+from tool.input import MOST_BYTES, MOST_FILES, content, is_read
 from tool.names import file_name, is_name
 from tool.refusal import Refusal, shown
 
