@@ -354,10 +354,21 @@ class Example(Room):
     """The example, from a fresh clone."""
 
     def test_it_plans_within_ten_seconds(self):
-        # (seconds of the processor, since others may use the machine)
-        seconds = lambda: sum(resource.getrusage(resource.RUSAGE_CHILDREN)[:2])
+        # (by the clock, or by the processor's seconds where others have the processors)
+        is_free = os.getloadavg()[0] < len(os.sched_getaffinity(0))
+        seconds = time.monotonic if is_free else lambda: sum(resource.getrusage(resource.RUSAGE_CHILDREN)[:2])
         begun = seconds()
         ran = self.run_script([f"{TOP}/bin/cabal-plan", "set", f"--program={PROGRAM}", f"--results={self.room}/r", f"{TOP}/examples/set/set.toml"])
         self.assertLess(seconds() - begun, 10)
         self.assertEqual(1, ran.returncode, ran.err)
-        self.assertIn("52 cells: 38 plan, 14 no plan; 2 wanted without a plan", ran.out)
+        with open(f"{TOP}/docs/SETS.md", encoding="utf-8") as page:
+            shown = page.read().split("```")[1].strip().split("\n")[1:]
+        self.assertEqual([], [it for it in shown if it != "..." and f"{it}\n" not in ran.out])
+
+    def test_its_page(self):
+        words = [f"{TOP}/bin/cabal-plan", "set", f"--program={PROGRAM}", f"--results={self.room}/r", f"{TOP}/examples/set/set.toml"]
+        for _ in range(2):
+            self.assertEqual(1, self.run_script([*words, f"--html={self.room}/page"]).returncode)
+        self.assertEqual({"app.html", "bytes.html", "json.html", "store.html", "text.html"}, set(os.listdir(f"{self.room}/page/packages")))
+        self.write("other/mine.txt", "not to be lost\n")
+        self.is_failure(self.run_script([*words, f"--html={self.room}/other"]), "hasn't made it")

@@ -20,6 +20,8 @@ TABLES = ("examples/differences",)
 LINE = re.compile(r"(choose|node|conflict) ")
 # Commands by which a document changes its folder, at paths below it.
 CHANGES = ("mkdir ", "echo ", "sed ")
+# The end of the name of a set's file.
+SET = ".toml"
 OUTSIDE = re.compile(r"~|\.\.|(^|[\s>])/")
 
 
@@ -42,12 +44,14 @@ def files_of(folder):
 
 @functools.lru_cache(maxsize=None)
 def folders():
-    """Returns the folders of examples: those that have a file and are below no other such folder."""
+    """Returns the folders of examples to plan: those that have a file and are below no other folder with one. A folder with
+    the file of a set isn't planned as it is."""
     found = []
     for at, inner, inside in os.walk(f"{TOP}/examples"):
         if inside:
-            found.append(os.path.relpath(at, TOP))
             inner.clear()
+            if not any(it.endswith(SET) for it in inside):
+                found.append(os.path.relpath(at, TOP))
     return sorted(found)
 
 
@@ -170,9 +174,6 @@ def of_page(page, known):
             yield answer(page, first, lines, known)
 
 
-SET = "examples/set"
-
-
 def differs(folder, case):
     """Returns how the files of a case differ from those of its folder."""
     files, found = files_of(f"{TOP}/{folder}"), []
@@ -187,8 +188,7 @@ def of_folders(known):
     """Yields the faults of each folder of examples, and of each case over one."""
     there = folders()
     named = {case.name for case in known}
-    # (the tests of `cabal-plan set` are over its folder, which the program doesn't plan as it is)
-    for folder in (it for it in there if it != SET):
+    for folder in there:
         yield [] if folder in named else [Failure(PATH, 1, f"there is no case {folder}")]
     for case in known:
         if case.name in there:

@@ -156,6 +156,14 @@ def only(cells, name):
     return status_of_program(ran.returncode)
 
 
+def check_page(path):
+    """Refuses a folder that a page can't replace, before any cell is run."""
+    from tool.set.page_folder import place_of
+
+    with place_of(path) as place:
+        place.check()
+
+
 def main(words):
     of = words_of(words)
     form = forms.read(of.file)
@@ -165,6 +173,8 @@ def main(words):
 
         with new_room("cabal-plan-set-") as room:
             return only(prepared(of, form, room), of.cell)
+    if of.html:
+        check_page(of.html)
     results = Results(results_of(of))
     try:
         with marked_room(of.shared or results_of(of), ROOM, MARK) as room:
