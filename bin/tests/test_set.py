@@ -10,13 +10,14 @@ import shutil
 import subprocess
 import sys
 import time
+import unittest.mock
 import xml.dom.minidom
 
 from tests.rooms import HEEDED, TOP, Room, signal
 from tests.sets import PACKAGE, PROGRAM, SET, Set
 from tool import files
 from tool.refusal import Refusal
-from tool.set import bounds, form, stock
+from tool.set import bounds, command, form, run, stock
 from tool.why.ranges import admits
 
 CELLS = 32
@@ -110,6 +111,24 @@ class Cells(Set):
                 stock.MOST_FILES = before
         self.assertEqual((False, True), (all_of.is_lean, lean.is_lean))
         self.assertEqual({"alone"}, all_of.names - lean.names)
+
+    def test_links_to_what_is_reached(self):
+        """Where all would be too much, a cell has links to the names that it reaches alone, and the same answer."""
+        self.set(status=1)
+        whole = self.records()
+        of = command.words_of([self.file, f"--program={PROGRAM}"])
+        with files.new_room("set-") as room, unittest.mock.patch.object(stock, "MOST_FILES", 1):
+            cells = command.prepared(of, form.read(self.file), room)
+            runner = run.Runner(room, "here")
+            for cell in cells.all():
+                task = cells.task(cell)
+                record = runner.record(task)
+                there = os.listdir(f"{runner.folder(task)}/index") if task["index"] else []
+                self.assertEqual((task["index"] or [], False), (sorted(there), cell.target.package in there))
+                same = whole[cell.target.called, cell.compiler.name, cell.setting.name]
+                self.assertEqual([same[it] for it in ("status", "output", "reason")], [record[it] for it in ("status", "output", "reason")])
+            runner.end()
+            self.assertEqual([], os.listdir(f"{room}/work/here"))
 
 
 def form_index(folder):

@@ -13,7 +13,7 @@ EDITION = 1
 
 
 class Cell:
-    """A cell: its target, compiler and setting, its key, and what a run of it needs."""
+    """A cell: its target, compiler and setting, its key, and the bound that it asks for."""
 
     __slots__ = ("target", "compiler", "setting", "key", "bound")
 
@@ -38,37 +38,31 @@ class Cells:
         self.compilers = {it: Compiler(it, number, form, room, say) for number, it in enumerate(form.compilers)}
         self.targets = Chosen(form, self.stock).targets()
         self.numbers = {it: number for number, it in enumerate(self.targets)}
-        self.say, self.files, self.lean = say, {}, set()
+        self.files, self.reaches = {}, {}
 
     def files_of(self, target):
         """Returns the files of a target. Those of the last one are kept."""
         if target not in self.files:
+            self.reaches = {}
             self.files = {target: Files(target, self.numbers[target], self.form, self.stock, self.room)}
         return self.files[target]
 
+    def reach(self, target, compiler):
+        """Returns what a target reaches with a compiler. Those of the last target are kept."""
+        files = self.files_of(target)
+        if compiler not in self.reaches:
+            self.reaches[compiler] = Reach(self.stock, compiler, files.roots, files.own)
+        return self.reaches[compiler]
+
     def of_target(self, target):
         """Yields the cells of a target."""
-        files, reaches = self.files_of(target), {}
+        files = self.files_of(target)
         for of, setting in self.form.pairs:
             compiler = self.compilers[of]
-            if of not in reaches:
-                reaches[of] = Reach(self.stock, compiler, files.roots, files.own)
-                self.slim(target, compiler, reaches[of])
+            reach = self.reach(target, compiler)
             settings = [(setting, None), *(asked_bounds(files, self.stock, compiler, setting) if target.has_bounds else ())]
             for it, bound in settings:
-                yield Cell(target, compiler, it, self.key(files, reaches[of], (target, compiler, it)), bound)
-
-    def slim(self, target, compiler, reach):
-        """Makes a folder of links to the names that a target reaches, where the whole index is too much for the program."""
-        if reach.is_lean:
-            path = self.lean_path(target, compiler)
-            self.lean.add(path)
-            self.room.folder(path)
-            for name in (it for it in reach.names if it not in reach.own and self.stock.names[it].versions):
-                self.room.link(f"{path}/{name}", f"../../index/{name}")
-
-    def lean_path(self, target, compiler):
-        return f"lean/{self.numbers[target]}-{compiler.path.rpartition('/')[2]}"
+                yield Cell(target, compiler, it, self.key(files, reach, (target, compiler, it)), bound)
 
     def all(self):
         """Yields all cells."""
@@ -87,10 +81,10 @@ class Cells:
         local = files.local.decode("utf-8", "surrogateescape")
         lines = "".join(f"{it}\n" for it in setting.lines)
         local += ("\n" if lines and local and not local.endswith("\n") else "") + lines
-        lean = self.lean_path(cell.target, cell.compiler)
         return {
             **facts(cell, self.form.path),
-            "links": {**files.links, "index": lean if lean in self.lean else "index", "installed": cell.compiler.path},
+            "links": {**files.links, "installed": cell.compiler.path},
+            "index": self.reach(cell.target, cell.compiler).told(),
             "texts": {LOCAL: local} if local else {},
             "planning": [*cell.compiler.words, *setting.words],
             "shrink": self.form.is_shrunk,

@@ -150,9 +150,7 @@ def only(cells, name):
     if cell is None:
         raise Refusal(f"there is no cell {shown(name)}")
     task = cells.task(cell)
-    runner = Runner(cells.room, "hand")
-    runner.fill("cell", task)
-    ran = children.run([f"{cells.room}/{PROGRAM}", "plan", *task["planning"]], cwd=f"{cells.room}/cell")
+    ran = children.run([f"{cells.room}/{PROGRAM}", "plan", *task["planning"]], cwd=Runner(cells.room, "hand").folder(task))
     return status_of_program(ran.returncode)
 
 
@@ -184,7 +182,7 @@ def main(words):
         if of.html:
             from tool.set import page
 
-            page.write((record for _, record in run.records(earlier)), of.html)
+            page.write((record for cell, record in run.records(earlier) if cell.bound is None), of.html)
         sys.stdout.flush()
         return status
     finally:

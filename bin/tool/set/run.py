@@ -20,8 +20,15 @@ FAILED = "failed"
 PROGRAM, WORK = "program", "work"
 # How a line begins that is no record, but says why a worker ends.
 FAULT = b"fault: "
+INDEX = "index"
+SHARED = (INDEX, "installed", "cabal.project.local")
 # The parts of a record that its cell says.
 FACTS = ("target", "name", "version", "compiler", "setting", "wanted", "words")
+
+
+def project(files):
+    """Returns what a folder has of its project: all but the links and the text in which the cells of a target differ."""
+    return INDEX in files, {at: it for at, it in files.items() if at.partition("/")[0] not in SHARED}
 
 
 def line_of(record):
@@ -30,17 +37,33 @@ def line_of(record):
 
 
 class Runner:
-    """A worker: the room, its own name, and how many cells it has run."""
+    """A worker: the room, its own name, and its folder: which it is, and what is there, a link's target or a text's bytes."""
 
     def __init__(self, path, name):
-        self.room, self.name, self.made = Room(path), name, 0
+        self.room, self.name, self.made, self.there = Room(path), name, 0, {}
 
-    def fill(self, path, cell):
-        """Makes the folder of a cell: its texts, and links to what cells share."""
-        for at, place in cell["links"].items():
-            self.room.link(f"{path}/{at}", f"{self.room}/{place}")
-        for at, text in cell["texts"].items():
-            self.room.write(f"{path}/{at}", text.encode("utf-8", "surrogateescape"))
+    def folder(self, cell):
+        """Makes the folder of a cell: its texts, and links to what cells share. The last one is used again for a cell with the
+        same files of a project: only what differs is made anew."""
+        links = {INDEX: INDEX} if cell["index"] is None else {f"{INDEX}/{it}": f"{INDEX}/{it}" for it in cell["index"]}
+        wanted = {at: f"{self.room}/{place}" for at, place in {**cell["links"], **links}.items()}
+        wanted.update({at: text.encode("utf-8", "surrogateescape") for at, text in cell["texts"].items()})
+        if project(wanted) != project(self.there):
+            self.end()
+            self.made += 1
+        path = f"{WORK}/{self.name}/{self.made}"
+        for at in (it for it, found in self.there.items() if wanted.get(it) != found):
+            self.room.remove(f"{path}/{at}")
+        for at, it in wanted.items():
+            if self.there.get(at) != it:
+                (self.room.write if isinstance(it, bytes) else self.room.link)(f"{path}/{at}", it)
+        self.there = wanted
+        return f"{self.room}/{path}"
+
+    def end(self):
+        """Removes the folder."""
+        self.room.remove(f"{WORK}/{self.name}/{self.made}")
+        self.there = {}
 
     def program(self, where, words):
         """Runs the program in a folder."""
@@ -55,17 +78,11 @@ class Runner:
 
     def record(self, cell):
         """Runs a cell, and returns its record."""
-        self.made += 1
-        path = f"{WORK}/{self.name}/{self.made}"
-        self.fill(path, cell)
-        try:
-            where = f"{self.room}/{path}"
-            begun = time.monotonic()
-            status, output, error = self.program(where, cell["planning"])
-            reason = self.reason(where, cell["planning"]) if status == NO_PLAN and cell["shrink"] else ""
-            seconds = round(time.monotonic() - begun, 6)
-        finally:
-            self.room.remove(path)
+        where = self.folder(cell)
+        begun = time.monotonic()
+        status, output, error = self.program(where, cell["planning"])
+        reason = self.reason(where, cell["planning"]) if status == NO_PLAN and cell["shrink"] else ""
+        seconds = round(time.monotonic() - begun, 6)
         verdict = VERDICTS[status] if status < len(VERDICTS) else FAILED
         told = {"status": status, **{it: cell[it] for it in FACTS}}
         return {"key": cell["key"], "verdict": verdict, **told, "seconds": seconds, "output": output, "error": error, "reason": reason}

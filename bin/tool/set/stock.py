@@ -145,6 +145,10 @@ class Reach:
                 total.update(name.encode() + b"\0" + of.digest)
         self.digest = total.digest()
 
+    def told(self):
+        """Returns the names to which a cell has links, or none where it has one to the whole index."""
+        return sorted(it for it in self.names if it not in self.own and self.stock.names[it].versions) if self.is_lean else None
+
     def spread(self, roots, mentions):
         """Returns all names that mentions and records reach. Local names aren't looked up in the index."""
         found, rest = set(roots), list(roots)
