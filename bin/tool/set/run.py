@@ -21,14 +21,13 @@ PROGRAM, WORK = "program", "work"
 # How a line begins that is no record, but says why a worker ends.
 FAULT = b"fault: "
 INDEX = "index"
-SHARED = (INDEX, "installed", "cabal.project.local")
 # The parts of a record that its cell says.
 FACTS = ("target", "name", "version", "compiler", "setting", "wanted", "words")
 
 
-def project(files):
-    """Returns what a folder has of its project: all but the links and the text in which the cells of a target differ."""
-    return INDEX in files, {at: it for at, it in files.items() if at.partition("/")[0] not in SHARED}
+def inner(files):
+    """Returns what a folder has in folders of its own."""
+    return INDEX in files, {at: it for at, it in files.items() if "/" in at and not at.startswith(f"{INDEX}/")}
 
 
 def line_of(record):
@@ -43,12 +42,12 @@ class Runner:
         self.room, self.name, self.made, self.there = Room(path), name, 0, {}
 
     def folder(self, cell):
-        """Makes the folder of a cell: its texts, and links to what cells share. The last one is used again for a cell with the
-        same files of a project: only what differs is made anew."""
+        """Makes the folder of a cell: its texts, and links to what cells share. The last one is used again, unless it has other
+        folders: only what differs is made anew."""
         links = {INDEX: INDEX} if cell["index"] is None else {f"{INDEX}/{it}": f"{INDEX}/{it}" for it in cell["index"]}
         wanted = {at: f"{self.room}/{place}" for at, place in {**cell["links"], **links}.items()}
         wanted.update({at: text.encode("utf-8", "surrogateescape") for at, text in cell["texts"].items()})
-        if project(wanted) != project(self.there):
+        if inner(wanted) != inner(self.there):
             self.end()
             self.made += 1
         path = f"{WORK}/{self.name}/{self.made}"
