@@ -21,7 +21,7 @@ HERE = os.path.dirname(os.path.abspath(__file__))
 CLIENT, TOOL = f"{HERE}/client.py", os.path.dirname(HERE)
 ROOM, SENT = "room", "sent"
 # What of the room a worker doesn't need.
-UNSENT = {f"{ROOM}/{it}" for it in (WORK, SENT, "older", "modern", ".made")}
+UNSENT = {f"{ROOM}/{it}" for it in (WORK, SENT, "older", ".made")}
 
 
 def packed(room, is_shared):
