@@ -5,6 +5,7 @@ replaces another one, except where a call says so. What is removed is looked at 
 
 import contextlib
 import errno
+import fcntl
 import os
 import secrets
 import shutil
@@ -328,6 +329,10 @@ class Room:
         """Makes a link, with the folders above it."""
         os.symlink(target, self._place(path))
 
+    def allow(self, path):
+        """Lets a file be run."""
+        os.chmod(f"{self.path}/{'/'.join(parts(path))}", 0o755)
+
     def copy(self, source, path, without=()):
         """Copies a file, or a folder without the files of these names. Links stay links."""
         if os.path.isdir(source):
@@ -401,3 +406,75 @@ def cache_room(path):
     if not stat.S_ISDIR(of.st_mode) or of.st_uid != os.geteuid():
         raise Refusal(f"{path} is a link, or another user's, and nothing is written there")
     return Room(path)
+
+
+class Lines:
+    """A file of lines that only grows. A line is appended whole, and the remains of a torn last one are cut off. Only one
+    run at a time has it open."""
+
+    def __init__(self, path):
+        self.path = path
+        self.handle = os.open(path, os.O_RDWR | os.O_CREAT | os.O_NOFOLLOW | os.O_NONBLOCK | os.O_CLOEXEC | os.O_APPEND, 0o644)
+        try:
+            if not stat.S_ISREG(os.fstat(self.handle).st_mode):
+                raise Refusal(f"{path} is no regular file")
+            fcntl.flock(self.handle, fcntl.LOCK_EX | fcntl.LOCK_NB)
+            self.size = self.whole()
+            os.ftruncate(self.handle, self.size)
+        except BaseException as error:
+            os.close(self.handle)
+            if isinstance(error, BlockingIOError):
+                raise Refusal(f"another run writes {path}: wait for its end") from error
+            raise
+
+    def whole(self):
+        """Returns where the last whole line ends."""
+        at = os.fstat(self.handle).st_size
+        while at > 0:
+            start = max(0, at - SMALL)
+            found = os.pread(self.handle, at - start, start).rfind(b"\n")
+            if found >= 0:
+                return start + found + 1
+            at = start
+        return 0
+
+    def append(self, line):
+        """Appends a line, and returns where it begins. If it can't be written whole, nothing of it stays."""
+        at = self.size
+        try:
+            write_all(self.handle, line)
+        except BaseException:
+            os.ftruncate(self.handle, at)
+            raise
+        self.size += len(line)
+        return at
+
+    def close(self):
+        os.close(self.handle)
+
+
+@contextlib.contextmanager
+def marked_room(within, prefix, mark):
+    """Yields a new folder in another one, which is removed at the end. It has a file `mark`, which is locked meanwhile. What
+    runs that were killed have left there is removed first."""
+    for name in os.listdir(within):
+        if name.startswith(prefix) and is_left(f"{within}/{name}", mark):
+            shutil.rmtree(f"{within}/{name}", ignore_errors=True)
+    with new_room(prefix, within) as room, lock_file(room, mark) as handle:
+        fcntl.flock(handle, fcntl.LOCK_EX)
+        yield room
+
+
+def is_left(path, mark):
+    """Returns whether a folder has a mark that no run has locked."""
+    try:
+        handle = os.open(f"{path}/{mark}", os.O_RDWR | os.O_NOFOLLOW | os.O_NONBLOCK | os.O_CLOEXEC)
+    except OSError:
+        return False
+    try:
+        fcntl.flock(handle, fcntl.LOCK_EX | fcntl.LOCK_NB)
+        return True
+    except OSError:
+        return False
+    finally:
+        os.close(handle)

@@ -25,6 +25,7 @@ TOOL = {
     "outdated": ("tool.plans.outdated", "list what isn't the latest version, and what holds it back"),
     "json": ("tool.plans.json", "print the plan as cabal's plan.json"),
     "graph": ("tool.graph.command", "draw a plan or a conflict"),
+    "set": ("tool.set.command", "plan many packages with many compilers and settings"),
 }
 HELP = ("help", "--help", "-h")
 EPILOGUE = f"""`{NAME} help WORD` shows the options of a word. Exit status of `plan`: 0 a plan, 1 no plan, 2 gave up, 3 refused, 4 and

@@ -20,6 +20,8 @@ TABLES = ("examples/differences",)
 LINE = re.compile(r"(choose|node|conflict) ")
 # Commands by which a document changes its folder, at paths below it.
 CHANGES = ("mkdir ", "echo ", "sed ")
+# The end of the name of a set's file.
+SET = ".toml"
 OUTSIDE = re.compile(r"~|\.\.|(^|[\s>])/")
 
 
@@ -42,12 +44,14 @@ def files_of(folder):
 
 @functools.lru_cache(maxsize=None)
 def folders():
-    """Returns the folders of examples: those that have a file and are below no other such folder."""
+    """Returns the folders of examples to plan: those that have a file and are below no other folder with one. A folder with
+    the file of a set isn't planned as it is."""
     found = []
     for at, inner, inside in os.walk(f"{TOP}/examples"):
         if inside:
-            found.append(os.path.relpath(at, TOP))
             inner.clear()
+            if not any(it.endswith(SET) for it in inside):
+                found.append(os.path.relpath(at, TOP))
     return sorted(found)
 
 

@@ -4,6 +4,7 @@ In: a folder, the words it was planned with, and the names of a conflict. Out: c
 their places. It is all read off the files, and decides nothing."""
 
 import difflib
+import functools
 import re
 
 from tool.names import is_name
@@ -55,6 +56,12 @@ class Unit:
         self.name, self.version, self.id = (" ".join(told.get(it, [])) for it in ("name", "version", "id"))
 
 
+@functools.lru_cache(maxsize=1024)
+def unit_of(path, text):
+    """Returns a record. The last ones are kept, since other folders may have the same: don't change them."""
+    return Unit(path, text)
+
+
 def path_of(words, name):
     """Returns the folder that `--index` or `--installed` names."""
     return next((it.partition("=")[2] for it in words if it.startswith(f"--{name}=")), name)
@@ -76,7 +83,7 @@ class Folder:
         if self._units is None:
             paths = [it for it in listed(f"{self.folder}/{self.installed}") if it.endswith(".conf")][:MOST_RECORDS]
             texts = [(f"{self.installed}/{it}", text_of(f"{self.folder}/{self.installed}/{it}")) for it in paths]
-            self._units = [Unit(path, text) for path, text in texts if text is not None]
+            self._units = [unit_of(path, text) for path, text in texts if text is not None]
         return self._units
 
     def broken(self):

@@ -1,0 +1,1 @@
+"""`cabal-plan set`: plans many packages with many compilers and settings."""
