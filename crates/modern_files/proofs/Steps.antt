@@ -1,6 +1,7 @@
--- Shared: one more frame, one more list, and the end of a run.
-use Rattle.std.proofs.Common.{◌≡◌, ℕ, ◌+◌, ◌<◌, ◌≤◌, List, [], ◌∷◌, ◌++◌, length, length-append, take, drop, get_or, Option, Result, Ok, Err, true, false, ◌==◌, refl, sym, ap, ◌∙◌, subst, inl, inr, arith}
+-- One more frame, one more list, and the end of a run.
+use Rattle.std.proofs.Common.{◌≡◌, ℕ, ◌+◌, ◌<◌, ◌≤◌, List, [], ◌∷◌, ◌++◌, length, length-append, take, drop, get_or, Option, Some, None, Result, Ok, Err, true, false, ◌==◌, refl, sym, ap, ◌∙◌, subst, inl, inr, arith}
 use Rattle.std.specs.Prelude.{IsErrAnd}
+use Rattle.std.specs.Option.{option_map}
 use Rattle.std.proofs.Math.Seq.{take-append-add}
 use Rattle.std.proofs.lemmas.Bool.{false≢true}
 use Rattle.std.proofs.lemmas.Bool.Decides.{nat_tests}
@@ -12,7 +13,6 @@ use Rattle.plan_types.specs.declared.refusal.Refusal.{Refusal}
 use Rattle.outside_folder.specs.Calls.{content_at}
 use Rattle.outside_folder.specs.Files.{Bytes, Files}
 use Rattle.outside_folder.specs.Sink.{Appends, AppendsPrefix}
-use Rattle.outside_folder.proofs.Appending.{Appends-then}
 use Rattle.plan_print.specs.Texts.{refusal_text}
 use Rattle.modern_files.specs.Frames.{AreFrames, IsFrame}
 use Rattle.modern_files.specs.Lists.{AreListed, IsListed, behind}
@@ -22,6 +22,11 @@ use Rattle.modern_files.specs.declared.status.Status.{Status}
 use Rattle.modern_files.specs.declared.status.Status.TheVariants as status
 use Rattle.modern_files.specs.declared.status.Stop.{Stop}
 use Rattle.modern_files.specs.declared.status.Stop.TheVariants as stop
+
+-- one write after another
+pub Appends-then : (old mid new : Option (List ℕ)) (a b : List ℕ) → Appends old mid a → Appends mid new b → Appends old new (a ++ b)
+Appends-then None mid new a b first second = second ∙ ap (option_map (λ bytes. bytes ++ b)) first
+Appends-then (Some x) mid new a b first second = second ∙ ap (option_map (λ bytes. bytes ++ b)) first ∙ ap Some (append_assoc x a b)
 
 -- ---- frames
 

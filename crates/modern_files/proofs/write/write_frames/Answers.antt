@@ -1,9 +1,8 @@
 use Rattle.std.proofs.Common.{◌≡◌, ◌+◌, ◌++◌, Ok, Err, ◌∙◌, subst, sym}
 use Rattle.common_laws.specs.Small.{if_some, some_at}
-use Rattle.outside_folder.proofs.Appending.{Appends-then}
 use Rattle.outside_folder.proofs.CallSequences.{onward}
 use Rattle.modern_files.specs.Output.{WritesFrame, WritesFrames}
-use Rattle.modern_files.proofs.Steps.{err-passed, frames-next, stopped}
+use Rattle.modern_files.proofs.Steps.{Appends-then, err-passed, frames-next, stopped}
 use Rattle.modern_files.proofs.write.write_frames.Goals as goal
 
 pub loop-path-preserved : goal.loop-path-preserved
