@@ -234,7 +234,7 @@ class Resumed(Set):
         slow = self.script("slow", f'#!/bin/sh\nsleep 0.2\nexec {PROGRAM} "$@"\n')
         for number in (signal.SIGINT, signal.SIGTERM):
             with subprocess.Popen([*HEEDED, *self.words(program=slow)], cwd=self.s, env=self.environment(), stdout=subprocess.PIPE, stderr=subprocess.PIPE) as ran:
-                self.wait_for(1)
+                self.wait_for(2)  # (a signal may take back the line that is written just then)
                 ran.send_signal(number)
                 _, err = ran.communicate()
             self.assertEqual((128 + number, ["cells.jsonl"]), (ran.returncode, os.listdir(f"{self.s}/set.results")), err)
