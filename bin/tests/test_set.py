@@ -226,6 +226,8 @@ class Resumed(Set):
                 time.sleep(draw.uniform(0.2, 1.0))
                 ran.kill()
         self.run_script(self.words(program=slow), where=self.s)
+        # (a worker of a killed run may have written into its room while that was removed: the next run removes the rest)
+        self.run_script(self.words(program=slow), where=self.s)
         plain = lambda found: {cell: {key: value for key, value in it.items() if key != "key"} for cell, it in found.items()}
         self.assertEqual(plain(whole), plain(self.records()))
         self.assertEqual(["cells.jsonl"], os.listdir(f"{self.s}/set.results"))

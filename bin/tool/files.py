@@ -454,21 +454,36 @@ class Lines:
 
 
 @contextlib.contextmanager
+def locked_folder(path):
+    """Lets one caller at a time make or remove what stands in a folder."""
+    handle = os.open(path, os.O_RDONLY | os.O_DIRECTORY | os.O_CLOEXEC)
+    try:
+        fcntl.flock(handle, fcntl.LOCK_EX)
+        yield
+    finally:
+        os.close(handle)
+
+
+@contextlib.contextmanager
 def marked_room(within, prefix, mark):
     """Yields a new folder in another one, which is removed at the end. It has a file `mark`, which is locked meanwhile. What
     runs that were killed have left there is removed first."""
-    for name in os.listdir(within):
-        if name.startswith(prefix) and is_left(f"{within}/{name}", mark):
-            shutil.rmtree(f"{within}/{name}", ignore_errors=True)
-    with new_room(prefix, within) as room, lock_file(room, mark) as handle:
-        fcntl.flock(handle, fcntl.LOCK_EX)
+    with contextlib.ExitStack() as held:
+        with locked_folder(within):
+            for name in os.listdir(within):
+                if name.startswith(prefix) and is_left(f"{within}/{name}", mark):
+                    shutil.rmtree(f"{within}/{name}", ignore_errors=True)
+            room = held.enter_context(new_room(prefix, within))
+            fcntl.flock(held.enter_context(lock_file(room, mark)), fcntl.LOCK_EX)
         yield room
 
 
 def is_left(path, mark):
-    """Returns whether a folder has a mark that no run has locked."""
+    """Returns whether no run has locked the mark of a folder, or a run was killed before it set one."""
     try:
         handle = os.open(f"{path}/{mark}", os.O_RDWR | os.O_NOFOLLOW | os.O_NONBLOCK | os.O_CLOEXEC)
+    except FileNotFoundError:
+        return True
     except OSError:
         return False
     try:
