@@ -6,10 +6,17 @@ import os
 import select
 import shutil
 import subprocess
+import time
 
 CHROMIUM = next(filter(None, map(shutil.which, ("chromium", "chromium-browser", "google-chrome"))), None)
 SECONDS = 30
+# The code of the protocol's error for a page that was left.
+LEFT = -32000
 KEYS = {"Enter": 13, "Escape": 27, "ArrowLeft": 37, "ArrowUp": 38, "ArrowRight": 39, "ArrowDown": 40, "Tab": 9, "/": 191, "End": 35}
+
+
+class PageLeft(ValueError):
+    """The page was left before the answer."""
 
 
 class Browser:
@@ -66,7 +73,7 @@ class Browser:
             it = self.message()
             if it.get("id") == self.number:
                 if "error" in it:
-                    raise ValueError(f"{method}: {it['error']}")
+                    raise (PageLeft if it["error"].get("code") == LEFT else ValueError)(f"{method}: {it['error']}")
                 return it["result"]
             self.note(it)
 
@@ -84,9 +91,16 @@ class Browser:
         return found["result"].get("value")
 
     def until(self, text):
-        """Waits until an expression holds, at most ten seconds."""
-        wait = "new Promise(done => { let left = 200; const look = () => (%s) || !left-- ? done(left >= 0) : setTimeout(look, 50); look(); })"
-        return self.value(wait % text)
+        """Waits until an expression holds, at most twenty seconds. A page that is left meanwhile has no value."""
+        end = time.monotonic() + 20
+        while time.monotonic() < end:
+            try:
+                if self.value(f"!!({text})"):
+                    return True
+            except PageLeft:
+                pass
+            time.sleep(0.05)
+        return False
 
     def key(self, name):
         """Presses a key."""
