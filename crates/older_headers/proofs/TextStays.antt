@@ -8,11 +8,11 @@ use Rattle.plan_types.specs.declared.element.Element.TheVariants.{Field, rolls-F
 use Rattle.cabal_lexer.proofs.ElementTrees.{field_in_front}
 use Rattle.cabal_lexer.specs.RoundTrip.{unnumbered}
 use Rattle.cabal_lexer.specs.Tree.{Tree, in_front, tree_of}
-use Rattle.older_rules.specs.Editions.{header_text}
+use Rattle.older_fields.specs.Editions.{header_text}
 use Rattle.older_rules.specs.Modern.{BeginsWithHeader, IsModern}
 use Rattle.older_rules.specs.declared.change.Change.{Change}
-use Rattle.older_rules.specs.declared.edition.Edition.{Edition}
-use Rattle.older_rules.specs.declared.edition.Edition.TheVariants.{V1_0, V1_2, V1_4, V1_6, V1_8, V1_10, V1_12, V1_18, V1_20, V1_22, V1_24, V2_0, V2_2, V2_4, V3_0, V3_4}
+use Rattle.older_fields.specs.declared.edition.Edition.{Edition}
+use Rattle.older_fields.specs.declared.edition.Edition.TheVariants.{V1_0, V1_2, V1_4, V1_6, V1_8, V1_10, V1_12, V1_18, V1_20, V1_22, V1_24, V2_0, V2_2, V2_4, V3_0, V3_4}
 use Rattle.older_rules.specs.declared.modern.Modern.{Modern}
 use Rattle.older_headers.proofs.Parts.{field-parts, field-section, zero}
 use Rattle.older_headers.specs.Answers.{IsAnswer, IsRead, Says, heads_read, is_read_version, states_read}

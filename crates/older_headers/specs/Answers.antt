@@ -9,14 +9,11 @@ use Rattle.cabal_lexer.specs.Fault.{IsTree}
 use Rattle.cabal_lexer.specs.RoundTrip.{unnumbered}
 use Rattle.cabal_lexer.specs.Tree.{Tree, end, field, section, tree_of}
 use Rattle.older_layout.specs.OlderTree.{IsOlderTree, IsOlderFault}
+use Rattle.older_fields.specs.Flat.{file_limit}
 use Rattle.older_rules.specs.Modern.{IsModern}
 use Rattle.older_rules.specs.declared.modern.Modern.{Modern}
 use Rattle.older_headers.specs.declared.answer.Answer.{Answer}
 use Rattle.older_headers.specs.declared.answer.Answer.TheVariants.{Unchanged, Rewritten}
-
--- the most bytes of a file that the planner reads
-abbrev pub file_limit : ℕ
-file_limit = 1048576
 
 -- the cabal-versions that the planner reads
 abbrev pub is_read_version : List ℕ → Bool

@@ -15,13 +15,13 @@ use Rattle.older_rules.specs.declared.body.Place.{Place}
 use Rattle.older_rules.specs.declared.body.Place.TheVariants as place
 use Rattle.older_rules.specs.declared.change.Change.{Change}
 use Rattle.older_rules.specs.declared.change.Change.TheVariants.{Name}
-use Rattle.older_rules.specs.declared.edition.Edition.{Edition}
-use Rattle.older_rules.specs.declared.edition.Edition.TheVariants.{V3_4}
+use Rattle.older_fields.specs.declared.edition.Edition.{Edition}
+use Rattle.older_fields.specs.declared.edition.Edition.TheVariants.{V3_4}
 use Rattle.older_rules.specs.declared.tops.TopRule.{TopRule}
 use Rattle.older_rules.specs.declared.tops.TopRule.TheVariants as top
 use Rattle.older_rules.specs.Bodies.{field_rule, place_of, chained_after, is_opening, field_kept, field_told, section_kept, section_told, kept, told}
-use Rattle.older_rules.specs.NameMaps.{Entry, is_named, text_for}
-use Rattle.older_rules.specs.Names.{Naming, fresh, is_odd, lacks_name, new_name, put, renamed, so_far, with_name, with_new}
+use Rattle.older_fields.specs.NameMaps.{Entry, is_named, text_for}
+use Rattle.older_fields.specs.Names.{Naming, fresh, is_odd, lacks_name, new_name, put, renamed, so_far, with_name, with_new}
 use Rattle.older_rules.specs.Tops.{name_told, top_rule, top_kept, top_told, tops, tops_told}
 
 abbrev is_cons : {A : Type 0} → List A → Bool

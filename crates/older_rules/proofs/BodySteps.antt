@@ -5,10 +5,10 @@ use Rattle.plan_types.specs.declared.element.Element.TheVariants.{Field, Section
 use Rattle.cabal_lexer.specs.Tree.{in_front, tree_of}
 use Rattle.cabal_lexer.proofs.ElementTrees.{field_in_front, section_in_front, added}
 use Rattle.older_rules.specs.declared.change.Change.{Change}
-use Rattle.older_rules.specs.declared.edition.Edition.{Edition}
+use Rattle.older_fields.specs.declared.edition.Edition.{Edition}
 use Rattle.older_rules.specs.declared.body.FieldRule.{FieldRule}
 use Rattle.older_rules.specs.declared.body.Place.{Place}
-use Rattle.older_rules.specs.NameMaps.{Entry}
+use Rattle.older_fields.specs.NameMaps.{Entry}
 use Rattle.older_rules.specs.Bodies.{field_rule, place_of, chained_after, is_opening, field_kept, field_told, section_kept, section_told, kept, told, Keeps, Tells}
 
 module _ (edition : Edition) (tools : List Entry) (chained : Bool) where

@@ -1,6 +1,5 @@
 mod ToolBytes
 mod BodySteps
-mod FaultSteps
 mod TopSteps
 mod OneOutcome
 mod AloneSections

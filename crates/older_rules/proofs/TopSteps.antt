@@ -6,9 +6,9 @@ use Rattle.cabal_lexer.specs.Tree.{in_front, tree_of}
 use Rattle.cabal_lexer.proofs.ElementTrees.{field_in_front, section_in_front, added}
 use Rattle.older_rules.specs.declared.change.Change.{Change}
 use Rattle.older_rules.specs.declared.change.Change.TheVariants.{Dropped}
-use Rattle.older_rules.specs.declared.edition.Edition.{Edition}
+use Rattle.older_fields.specs.declared.edition.Edition.{Edition}
 use Rattle.older_rules.specs.declared.tops.TopRule.{TopRule}
-use Rattle.older_rules.specs.NameMaps.{Entry}
+use Rattle.older_fields.specs.NameMaps.{Entry}
 use Rattle.older_rules.specs.Tops.{top_rule, top_kept, top_told, tops, tops_told, KeepsTop, TellsTop}
 
 module _ (edition : Edition) (tools : List Entry) (names : List Entry) where

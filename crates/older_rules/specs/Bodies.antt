@@ -5,16 +5,16 @@ use Rattle.plan_types.specs.Bytes.{joined_text, same_text}
 use Rattle.plan_types.specs.declared.element.Element.{Element}
 use Rattle.plan_types.specs.declared.element.Element.TheVariants.{Field, Section}
 use Rattle.cabal_lexer.specs.Tree.{Tree, end, field, section, in_front}
-use Rattle.older_rules.specs.declared.edition.Edition.{Edition}
-use Rattle.older_rules.specs.declared.edition.Edition.TheVariants.{V2_2, V2_4}
+use Rattle.older_fields.specs.declared.edition.Edition.{Edition}
+use Rattle.older_fields.specs.declared.edition.Edition.TheVariants.{V2_2, V2_4}
 use Rattle.older_rules.specs.declared.change.Change.{Change}
 use Rattle.older_rules.specs.declared.change.Change.TheVariants as change
 use Rattle.older_rules.specs.declared.body.FieldRule.{FieldRule}
 use Rattle.older_rules.specs.declared.body.FieldRule.TheVariants as rule
 use Rattle.older_rules.specs.declared.body.Place.{Place}
 use Rattle.older_rules.specs.declared.body.Place.TheVariants as place
-use Rattle.older_rules.specs.Editions.{before}
-use Rattle.older_rules.specs.NameMaps.{Entry}
+use Rattle.older_fields.specs.Editions.{before}
+use Rattle.older_fields.specs.NameMaps.{Entry}
 use Rattle.older_rules.specs.Tools.{tool_texts, tools_told, commas}
 
 -- Before 2.2 Cabal passes over imports. Before 2.4 `build-tools` is read as `build-tool-depends`.

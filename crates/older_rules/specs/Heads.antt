@@ -6,15 +6,15 @@ use Rattle.plan_types.specs.declared.element.Element.{Element, Element-F, fold-E
 use Rattle.plan_types.specs.declared.element.Element.TheOpen.{Field, Section}
 use Rattle.plan_types.specs.declared.element.Element.TheVariants as element
 use Rattle.text_grammar.specs.Words.{is_word}
-use Rattle.older_rules.specs.declared.edition.Edition.{Edition}
-use Rattle.older_rules.specs.declared.edition.Edition.TheVariants.{V1_20, V2_2}
+use Rattle.older_fields.specs.declared.edition.Edition.{Edition}
+use Rattle.older_fields.specs.declared.edition.Edition.TheVariants.{V1_20, V2_2}
 use Rattle.older_rules.specs.declared.change.Change.{Change}
 use Rattle.older_rules.specs.declared.change.Change.TheVariants as change
-use Rattle.older_rules.specs.declared.header.Header.{Header}
+use Rattle.older_fields.specs.declared.header.Header.{Header}
 use Rattle.older_rules.specs.declared.heads.HeadRule.{HeadRule}
 use Rattle.older_rules.specs.declared.heads.HeadRule.TheVariants as rule
-use Rattle.older_rules.specs.Editions.{before, header_text}
-use Rattle.older_rules.specs.Items.{is_field_named, last_named, line_of, text_of}
+use Rattle.older_fields.specs.Editions.{before, header_text}
+use Rattle.older_fields.specs.Items.{is_field_named, last_named, line_of, text_of}
 
 -- one value, this one
 abbrev pub is_single : List ℕ → List (List ℕ) → Bool

@@ -1,12 +1,5 @@
-pub mod Editions
-pub mod Items
-pub mod Headers
-pub mod NameMaps
 pub mod Tools
 pub mod Bodies
-pub mod Names
-pub mod Flat
-pub mod Refused
 pub mod Heads
 pub mod Tops
 pub mod Modern

@@ -1,26 +1,26 @@
 -- A file under a cabal-version that is read: the rules in their order.
-use Rattle.std.specs.Prelude.{◌≡◌, ℕ, Bool, not, ◌&&◌, if◌then◌else◌, List, [], ◌∷◌, ◌++◌, flat_map, take, drop, codes, Option, Some, None, Result, Ok, Err}
+use Rattle.std.specs.Prelude.{◌≡◌, ◌⊎◌, ℕ, Bool, true, false, not, ◌&&◌, if◌then◌else◌, List, [], ◌∷◌, ◌++◌, flat_map, take, drop, codes, Option, Some, None, Result, Ok, Err}
 use Rattle.std.specs.List.{list_all, list_any}
 use Rattle.plan_types.specs.declared.element.Element.{Element}
 use Rattle.plan_types.specs.declared.element.Element.TheVariants.{Field, Section}
 use Rattle.plan_types.specs.declared.refusal.Cause.{Cause}
-use Rattle.plan_types.specs.declared.refusal.Cause.TheVariants.{MissingField}
+use Rattle.plan_types.specs.declared.refusal.Cause.TheVariants.{MissingField, TooLarge}
 use Rattle.cabal_lexer.specs.Tree.{tree_of}
 use Rattle.older_rules.specs.declared.change.Change.{Change}
 use Rattle.older_rules.specs.declared.change.Change.TheVariants as change
-use Rattle.older_rules.specs.declared.edition.Edition.{Edition}
-use Rattle.older_rules.specs.declared.edition.Edition.TheVariants.{V1_24, V2_4}
-use Rattle.older_rules.specs.declared.header.Header.{Header}
+use Rattle.older_fields.specs.declared.edition.Edition.{Edition}
+use Rattle.older_fields.specs.declared.edition.Edition.TheVariants.{V1_24, V2_4}
+use Rattle.older_fields.specs.declared.header.Header.{Header}
 use Rattle.older_rules.specs.declared.modern.Modern.{Modern}
-use Rattle.older_rules.specs.declared.refused.At.{At}
-use Rattle.older_rules.specs.Editions.{before, header_text, setup_depends}
-use Rattle.older_rules.specs.Flat.{flat, moves}
-use Rattle.older_rules.specs.Headers.{IsHeader}
+use Rattle.older_fields.specs.declared.refused.At.{At}
+use Rattle.older_fields.specs.Editions.{before, header_text, setup_depends}
+use Rattle.older_fields.specs.Flat.{flat, is_too_large, moves}
+use Rattle.older_fields.specs.Headers.{IsHeader}
 use Rattle.older_rules.specs.Heads.{head_kept, head_told, header_said, header_told, is_custom, type_line, type_said, type_told}
-use Rattle.older_rules.specs.Items.{is_field, last_named, leading, text_of}
-use Rattle.older_rules.specs.NameMaps.{Entry, firsts}
-use Rattle.older_rules.specs.Names.{renamed}
-use Rattle.older_rules.specs.Refused.{first_fault, or_else}
+use Rattle.older_fields.specs.Items.{is_field, last_named, leading, text_of}
+use Rattle.older_fields.specs.NameMaps.{Entry, firsts}
+use Rattle.older_fields.specs.Names.{renamed}
+use Rattle.older_fields.specs.Refused.{first_fault, or_else}
 use Rattle.older_rules.specs.Tops.{component_name, executable_tool, is_setup, name_fault, tops, tops_told}
 
 abbrev pub text_or : Option Element → List ℕ
@@ -110,6 +110,10 @@ of_header told items (Ok header) = file told header (take (leading items) items)
 abbrev pub IsFile : List Change → List Element → Result Modern (ℕ × Cause) → Type 0
 IsFile told items found = (header : Result Header (ℕ × Cause)) × IsHeader items header × (found ≡ of_header told items header)
 
+-- a file without sections whose copies of `build-depends` are more than a file may have
+abbrev pub is_oversized : List Element → Bool
+is_oversized items = list_all is_field items && is_too_large items
+
 -- a file without sections gets them first
 abbrev pub sectioned : List Element → List Element
 sectioned items = if list_all is_field items then flat items else items
@@ -119,7 +123,9 @@ sectioned_told items = if list_all is_field items && list_any moves items then c
 
 -- The elements of a file under a cabal-version that is read, or the refusal of it.
 abbrev pub IsModern : List Element → Result Modern (ℕ × Cause) → Type 0
-IsModern items found = IsFile (sectioned_told items) (sectioned items) found
+IsModern items found =
+    ((is_oversized items ≡ true) × (found ≡ Err (0, TooLarge)))
+    ⊎ ((is_oversized items ≡ false) × IsFile (sectioned_told items) (sectioned items) found)
 
 -- a file whose first element is a cabal-version that is read
 abbrev pub BeginsWithHeader : List Element → Type 0

@@ -6,7 +6,7 @@ use Rattle.plan_types.specs.Name.{is_component_byte}
 use Rattle.cabal_lexer.specs.Lines.{trim}
 use Rattle.older_rules.specs.declared.change.Change.{Change}
 use Rattle.older_rules.specs.declared.change.Change.TheVariants.{UnknownTool}
-use Rattle.older_rules.specs.NameMaps.{Entry, text_for}
+use Rattle.older_fields.specs.NameMaps.{Entry, text_for}
 
 -- a byte of a tool's name
 abbrev pub is_tool_byte : ℕ → Bool

@@ -6,18 +6,18 @@ use Rattle.plan_types.specs.declared.element.Element.TheOpen.{Field, Section}
 use Rattle.plan_types.specs.declared.element.Element.TheVariants as element
 use Rattle.plan_types.specs.declared.refusal.Cause.TheVariants.{DuplicateName}
 use Rattle.cabal_lexer.specs.Tree.{Tree, end, field, section, in_front}
-use Rattle.older_rules.specs.declared.edition.Edition.{Edition}
-use Rattle.older_rules.specs.declared.edition.Edition.TheVariants.{V2_2, V3_4}
+use Rattle.older_fields.specs.declared.edition.Edition.{Edition}
+use Rattle.older_fields.specs.declared.edition.Edition.TheVariants.{V2_2, V3_4}
 use Rattle.older_rules.specs.declared.change.Change.{Change}
 use Rattle.older_rules.specs.declared.change.Change.TheVariants as change
-use Rattle.older_rules.specs.declared.refused.At.{At}
+use Rattle.older_fields.specs.declared.refused.At.{At}
 use Rattle.older_rules.specs.declared.tops.TopRule.{TopRule}
 use Rattle.older_rules.specs.declared.tops.TopRule.TheVariants as rule
 use Rattle.older_rules.specs.Bodies.{kept, told}
-use Rattle.older_rules.specs.Editions.{before}
-use Rattle.older_rules.specs.Items.{line_of}
-use Rattle.older_rules.specs.NameMaps.{Entry}
-use Rattle.older_rules.specs.Names.{is_odd, lacks_name, new_name}
+use Rattle.older_fields.specs.Editions.{before}
+use Rattle.older_fields.specs.Items.{line_of}
+use Rattle.older_fields.specs.NameMaps.{Entry}
+use Rattle.older_fields.specs.Names.{is_odd, lacks_name, new_name}
 
 abbrev pub is_component : List ℕ → Bool
 is_component name =

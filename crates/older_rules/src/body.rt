@@ -6,9 +6,8 @@ ghost use Rattle.cabal_lexer.specs.Tree.{tree_of};
 ghost use Rattle.older_rules.specs.Bodies.{field_rule, place_of, misplaced, chained_after, kept, told, field_kept, field_told, tool_field, Keeps, Tells};
 
 use crate::change::Change;
-use crate::edition::Edition;
-use crate::name_map::NameMap;
 use crate::tools::{commas, tool_texts};
+use older_fields::{Edition, NameMap, push_copy, push_value};
 use plan_types::{Element, List, NoMemory, Text, joined_text};
 use std::alloc::Global;
 
@@ -205,30 +204,6 @@ fn push_field(
     }
 }
 
-pub fn push_copy(
-    alloc: Global,
-    line: u32,
-    name: &Text,
-    values: &List<Text>,
-    out: &mut List<Element>,
-) -> Result<(), NoMemory>
-    ensures { OnOk result (out.new ≡ out.old ++ Field line name.now values.now ∷ []) }
-{
-    let name = name.copy()?;
-    let values = copied(alloc, values.as_slice())?;
-    out.push(Element::Field { line, name, values })
-}
-
-pub fn copied(alloc: Global, texts: &[Text]) -> Result<List<Text>, NoMemory>
-    ensures { IfOk result (λ copied. copied ≡ texts.now) }
-{
-    let mut copies = List::new(alloc);
-    for text in texts {
-        copies.push(text.copy()?)?;
-    }
-    Ok(copies)
-}
-
 fn push_tools(
     alloc: Global,
     line: u32,
@@ -242,34 +217,4 @@ fn push_tools(
     }
     let text = commas(alloc, found.as_slice())?;
     push_value(alloc, line, "build-tool-depends", text, out)
-}
-
-/// Pushes a field with one value.
-pub fn push_value(
-    alloc: Global,
-    line: u32,
-    name: &str,
-    value: Text,
-    out: &mut List<Element>,
-) -> Result<(), NoMemory>
-    ensures { OnOk result (out.new ≡ out.old ++ Field line name.now (value ∷ []) ∷ []) }
-{
-    let name = Text::from_str(alloc, name)?;
-    let mut values = List::new(alloc);
-    values.push(value)?;
-    out.push(Element::Field { line, name, values })
-}
-
-/// Pushes a field with one value.
-pub fn push_word(
-    alloc: Global,
-    line: u32,
-    name: &str,
-    value: &str,
-    out: &mut List<Element>,
-) -> Result<(), NoMemory>
-    ensures { OnOk result (out.new ≡ out.old ++ Field line name.now (value.now ∷ []) ∷ []) }
-{
-    let value = Text::from_str(alloc, value)?;
-    push_value(alloc, line, name, value, out)
 }

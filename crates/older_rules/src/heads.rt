@@ -4,11 +4,10 @@ ghost use Rattle.std.specs.Prelude.{◌≡◌, ◌++◌, flat_map, IfOk, OnOk};
 ghost use Rattle.std.specs.List.{list_any};
 ghost use Rattle.older_rules.specs.Heads.{is_default_value, type_rule, head_rule, head_kept, head_told, is_custom_text, is_custom, is_header, is_wanted, is_single, is_headed, header_said, header_told, type_said, type_told, lacks_type, type_line};
 
-use crate::body::{push_copy, push_word};
 use crate::change::Change;
-use crate::edition::Edition;
-use crate::header::Header;
-use crate::item::{is_field_named, last_named, line_of, text_of};
+use older_fields::{
+    Edition, Header, is_field_named, last_named, line_of, push_copy, push_word, text_of,
+};
 use plan_types::{Element, List, NoMemory, Text};
 use std::alloc::Global;
 

@@ -5,7 +5,7 @@ ghost use Rattle.plan_types.specs.declared.element.Element.{Element};
 ghost use Rattle.plan_types.specs.declared.refusal.Cause.{Cause};
 ghost use Rattle.older_rules.specs.declared.modern.Modern.{Modern};
 ghost use Rattle.cabal_lexer.specs.Tree.{tree_of};
-ghost use Rattle.older_rules.specs.declared.edition.Edition.{Edition};
+ghost use Rattle.older_fields.specs.declared.edition.Edition.{Edition};
 ghost use Rattle.older_rules.specs.Modern.{IsModern, BeginsWithHeader, sections, sections_told};
 
 /// A file has at most one rewriting, at most one refusal, and never both.

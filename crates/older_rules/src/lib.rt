@@ -4,22 +4,14 @@
 
 mod body;
 mod change;
-mod edition;
-mod flat;
-mod header;
 mod heads;
-mod item;
 mod laws;
 mod modern;
-mod name_map;
-mod names;
-mod refused;
 #[cfg(test)]
 mod tests;
 mod tools;
 mod tops;
 
 pub use change::Change;
-pub use edition::Edition;
 pub use laws::{header_first, one_outcome, sections_alone};
 pub use modern::{Modern, modern_elements};

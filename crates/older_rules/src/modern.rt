@@ -3,20 +3,16 @@
 ghost use Rattle.std.specs.Prelude.{◌≡◌, ◌++◌, IfOk, IfErr, OnOk};
 ghost use Rattle.std.specs.declared.result.Result.TheVariants.{Ok, Err};
 ghost use Rattle.plan_types.specs.Refusal.{RefusesAt};
-ghost use Rattle.older_rules.specs.Refused.{or_else};
+ghost use Rattle.older_fields.specs.Refused.{or_else};
 ghost use Rattle.older_rules.specs.Modern.{owner_of, names_of, tools_of, lacks_setup, setup_fault, is_implied, setup_items, setup_section, setup_said, setup_told, sections, sections_told, all_items, all_changes, fault_of, file, sectioned_told, IsFile, IsModern};
 
-use crate::body::push_word;
 use crate::change::Change;
-use crate::edition::Edition;
-use crate::flat::{all_fields, any_moves, flat, push_section};
-use crate::header::{Header, header_of};
 use crate::heads::{is_custom, push_header, push_heads, push_type, type_line};
-use crate::item::{last_named, leading, text_of};
-use crate::name_map::NameMap;
-use crate::names::renamed;
-use crate::refused::{At, first_fault};
 use crate::tops::{Rewriting, component_names, has_setup, name_fault, own_tools, push_tops};
+use older_fields::{
+    At, Edition, Header, NameMap, all_fields, any_moves, first_fault, flat, header_of,
+    is_too_large, last_named, leading, push_section, push_word, renamed, text_of,
+};
 use plan_types::{Cause, Element, Fault, List, NoMemory, Text};
 use std::alloc::Global;
 
@@ -263,6 +259,12 @@ pub fn modern_elements(alloc: Global, items: &List<Element>) -> Result<Modern, F
 {
     let told = sectioned_told(alloc, items.as_slice())?;
     if all_fields(items.as_slice()) {
+        if is_too_large(alloc, items.as_slice())? {
+            return Err(Fault::At {
+                line: 0,
+                cause: Cause::TooLarge,
+            });
+        }
         let made = flat(alloc, items.as_slice())?;
         return of_items(alloc, told, made.as_slice());
     }

@@ -5,9 +5,9 @@ ghost use Rattle.std.specs.List.{prefix_len, slice_split};
 ghost use Rattle.older_rules.specs.Tools.{is_tool_byte, is_known, known, full_name, depended, tool_texts, tools_told, tool_of, tool_told, entry_tool, entry_told, commas};
 
 use crate::change::Change;
-use crate::name_map::NameMap;
 use cabal_lexer::trim;
 use entry_text::is_component_byte;
+use older_fields::NameMap;
 use plan_types::{List, NoMemory, Text};
 use std::alloc::{AllocError, Global};
 

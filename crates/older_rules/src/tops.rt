@@ -5,18 +5,14 @@ ghost use Rattle.std.specs.List.{list_any};
 ghost use Rattle.plan_types.specs.declared.element.Element.TheVariants.{Section};
 ghost use Rattle.cabal_lexer.specs.Tree.{tree_of};
 ghost use Rattle.older_rules.specs.Bodies.{kept, told};
-ghost use Rattle.older_rules.specs.NameMaps.{firsts, with_first};
+ghost use Rattle.older_fields.specs.NameMaps.{firsts, with_first};
 ghost use Rattle.older_rules.specs.Tops.{is_component, component_name, is_unnamed, name_fault, tool_named, executable_tool, is_setup, top_rule, name_told, top_kept, top_told, tops, tops_told, KeepsTop, TellsTop};
-ghost use Rattle.older_rules.specs.Names.{new_name};
+ghost use Rattle.older_fields.specs.Names.{new_name};
 
 use crate::body::{Inside, push_section, rewritten};
 use crate::change::Change;
-use crate::edition::Edition;
-use crate::item::line_of;
-use crate::name_map::{NameMap, put_first};
-use crate::names::{is_odd, lacks_name, new_name};
-use crate::refused::At;
 use indexmap::IndexMap;
+use older_fields::{At, Edition, NameMap, is_odd, lacks_name, line_of, new_name, put_first};
 use plan_types::{Cause, Element, List, NoMemory, Text};
 use std::alloc::Global;
 

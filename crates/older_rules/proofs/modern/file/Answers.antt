@@ -2,7 +2,7 @@ use Rattle.std.proofs.Common.{◌≡◌, ◌++◌, ap, ◌∙◌, sym}
 use Rattle.std.specs.declared.result.Result.TheVariants.{Ok}
 use Rattle.older_rules.specs.Modern.{all_changes, all_items, fault_of, lacks_setup, names_of, rewritten_file, sections_told, unless_fault}
 use Rattle.older_rules.specs.Heads.{type_line}
-use Rattle.older_rules.specs.Refused.{or_else}
+use Rattle.older_fields.specs.Refused.{or_else}
 use Rattle.older_rules.specs.Tops.{name_fault}
 use Rattle.older_rules.specs.declared.modern.Modern.{Modern}
 use Rattle.older_rules.proofs.modern.file.Goals as goal

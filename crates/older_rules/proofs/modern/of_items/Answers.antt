@@ -2,7 +2,7 @@ use Rattle.std.proofs.Common.{◌≡◌, take, drop, sym, ap, ◌∙◌}
 use Rattle.std.specs.declared.result.Result.TheVariants.{Ok, Err}
 use Rattle.std.proofs.lemmas.Result.{IfOk-weaker}
 use Rattle.plan_types.proofs.OutcomeLemmas.{told-err}
-use Rattle.older_rules.specs.Items.{leading}
+use Rattle.older_fields.specs.Items.{leading}
 use Rattle.older_rules.specs.Modern.{IsFile, file}
 use Rattle.older_rules.proofs.modern.of_items.Goals as goal
 

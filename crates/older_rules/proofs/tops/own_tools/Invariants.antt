@@ -1,5 +1,5 @@
 use Rattle.std.proofs.Common.{◌≡◌, flat_map, take}
-use Rattle.older_rules.specs.NameMaps.{firsts}
+use Rattle.older_fields.specs.NameMaps.{firsts}
 use Rattle.older_rules.specs.Tops.{executable_tool}
 use Rattle.older_rules.proofs.tops.own_tools.Given as goal
 

@@ -1,0 +1,2 @@
+mod NameBytes
+mod FaultSteps

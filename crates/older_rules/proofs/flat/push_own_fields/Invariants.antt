@@ -1,6 +1,0 @@
-use Rattle.std.proofs.Common.{◌≡◌, ◌++◌, flat_map, take}
-use Rattle.older_rules.specs.Flat.{own_field}
-use Rattle.older_rules.proofs.flat.push_own_fields.Given as goal
-
-abbrev pub invariant-loop-item : goal.invariant-loop-item
-invariant-loop-item l = l.out ≡ l.initial.out ++ flat_map own_field (take l.item-index l.items)
