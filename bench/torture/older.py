@@ -23,6 +23,7 @@ FILES = {
     "executables with odd names": filled(HEAD, lambda it: f"executable e.{it}\n  main-is: M\n"),
     "executables with names that become one": filled(HEAD, lambda it: f"executable e{'.+,~'[it % 4]}{'.' * (it % 9)}x\n"),
     "executables of fields alone": filled(FLAT, lambda it: f"executable: e{it}\nmain-is: M\n"),
+    "executables that share dependencies": filled(FLAT + "build-depends: base" + " , base" * 60_000 + "\n", lambda it: f"executable: e{it}\n"),
     "fields alone": filled(FLAT, lambda it: f"ghc-options: -O{it}\n"),
     "tools": filled(HEAD + "library\n  build-tools: ", lambda it: f"t{it}", between=", ", tail="\n"),
     "fields of tools": filled(HEAD + "executable alex\nlibrary\n", "  build-tools: alex, happy\n"),

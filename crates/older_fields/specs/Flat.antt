@@ -152,8 +152,15 @@ flat items = parted (take (front_len items) items) (drop (front_len items) items
 abbrev pub file_limit : ℕ
 file_limit = 1048576
 
+-- the bytes of the `build-depends` that each executable gets
+abbrev pub shared_size : List Element → ℕ
+shared_size front = length (canonical (flat_map (field_of kind.Depends) front))
+
+abbrev pub executables_in : List Element → ℕ
+executables_in items = length (filter is_executable items)
+
 abbrev pub copied_size : List Element → List Element → ℕ
-copied_size front behind = length (canonical (flat_map (field_of kind.Depends) front)) * length (filter is_executable behind)
+copied_size front behind = shared_size front * executables_in behind
 
 -- whether the executables' copies of `build-depends` alone are more than a file may have
 abbrev pub is_too_large : List Element → Bool

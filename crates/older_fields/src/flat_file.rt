@@ -3,7 +3,7 @@
 ghost use Rattle.std.specs.Prelude.{◌≡◌, ◌++◌, ◌∷◌, ◌≤◌, ◌*◌, [], length, nat_lt, flat_map, IfOk, OnOk};
 ghost use Rattle.std.specs.List.{list_all, list_any};
 ghost use Rattle.plan_types.specs.declared.element.Element.TheVariants.{Section};
-ghost use Rattle.older_fields.specs.Flat.{is_module_field, is_source_field, is_option_field, is_library_list, is_language_field, is_library_field, is_kind, field_of, own_field, is_executable, front_len, library, executable_items, executable, some_executable, executables, flat, moves, file_limit, is_too_large};
+ghost use Rattle.older_fields.specs.Flat.{is_module_field, is_source_field, is_option_field, is_library_list, is_language_field, is_library_field, is_kind, field_of, own_field, is_executable, front_len, library, executable_items, executable, some_executable, executables, flat, moves, file_limit, shared_size, executables_in, is_too_large};
 ghost use Rattle.older_fields.specs.Items.{is_field};
 
 use crate::copies::{push_copy, push_section};
@@ -314,16 +314,29 @@ fn is_over(bytes: usize, copies: usize) -> bool
     }
 }
 
+// The bytes of the `build-depends` that each executable gets.
+fn shared_size(alloc: Global, front: &[Element]) -> Result<usize, NoMemory>
+    ensures { IfOk result (λ size. size ≡ shared_size front.now) }
+{
+    let mut shared = List::new(alloc);
+    push_fields_of(alloc, FieldKind::Depends, front, &mut shared)?;
+    let text = print_elements(alloc, &shared)?;
+    Ok(text.as_str().len())
+}
+
+fn executables_in(items: &[Element]) -> usize
+    ensures { result ≡ executables_in items.now }
+{
+    items.iter().filter(|item| is_executable(item)).count()
+}
+
 /// Whether the executables' copies of `build-depends` alone are more than a file may have.
 pub fn is_too_large(alloc: Global, items: &[Element]) -> Result<bool, NoMemory>
     ensures { IfOk result (λ large. large ≡ is_too_large items.now) }
 {
     let (front, behind) = items.split_at(front_len(items));
-    let mut shared = List::new(alloc);
-    push_fields_of(alloc, FieldKind::Depends, front, &mut shared)?;
-    let text = print_elements(alloc, &shared)?;
-    let executables = behind.iter().filter(|item| is_executable(item)).count();
-    Ok(is_over(text.as_str().len(), executables))
+    let bytes = shared_size(alloc, front)?;
+    Ok(is_over(bytes, executables_in(behind)))
 }
 
 /// Whether a field moves into a section.
