@@ -28,15 +28,17 @@ output above it.
     * FIRST..LAST LINES         repeats these lines, which a `\\n` separates, for each number, with the number in place
                                 of %n and the next one in place of %m
 
-In content and output `\\n` is a line end, `\\t` a tab, `\\r` a carriage return, `\\s` a blank and `\\xHH` a byte. A
-backslash before any other character means that character, so a backslash before a mark makes the line content. A
-backslash at the end of a line removes its line end. A line `\\pad SIZE` fills up the content above it with blanks to
-so many bytes. Empty lines at the end of a file or an output are ignored.
+In content, output and the words of a run `\\n` is a line end, `\\t` a tab, `\\r` a carriage return, `\\s` a blank and
+`\\xHH` a byte. A backslash before any other character means that character, so a backslash before a mark makes the
+line content. A backslash at the end of a line removes its line end; at the end of a word it means nothing, so a word
+`\\` is the empty one. A line `\\pad SIZE` fills up the content above it with blanks to so many bytes. Empty lines at
+the end of a file or an output are ignored.
 """
 
+import os
 import re
 
-from tool.program import TOP
+from tool.program import MODERN, PLANNER, TOP
 
 DATA = f"{TOP}/crates/case_runs/data"
 ARGS = f"{TOP}/crates/case_runs/args"
@@ -53,10 +55,13 @@ class BadCase(Exception):
 
 
 class Run:
-    """A run: its words, its fault, the status, and the output or, of a long one, its digest and its ends."""
+    """A run: its program, its words, its fault, the status, and the output or, of a long one, its digest and its ends."""
 
-    def __init__(self, case, words, failing, status, digest, output):
-        self.case, self.words, self.failing, self.status, self.digest, self.output = case, words, failing, status, digest, output
+    def __init__(self, case, line, failing, status, digest, output):
+        written = [it for it in line.split(" ") if it]
+        self.program = MODERN if written[:1] == [MODERN] else PLANNER
+        self.words = [os.fsdecode(word_of(it)) for it in written[self.program == MODERN :]]
+        self.case, self.line, self.failing, self.status, self.digest, self.output = case, line, failing, status, digest, output
 
 
 class Case:
@@ -87,9 +92,9 @@ def repeated(line):
     return [it for n in numbers for it in told[3].replace("%n", str(n)).replace("%m", str(n + 1)).replace("\\n", "\n").split("\n")]
 
 
-def unescaped(raw):
-    """Returns the bytes of a line of content."""
-    found, ends = bytearray(), b"\n"
+def unescaped(raw, ends):
+    """Returns the bytes of a line of content, or of a word. A backslash at its end takes away what ends it."""
+    found = bytearray()
     at = 0
     while at < len(raw):
         sign = raw[at : at + 1]
@@ -109,6 +114,11 @@ def unescaped(raw):
     return bytes(found) + ends
 
 
+def word_of(written):
+    """Returns the bytes of a word of a run."""
+    return unescaped(written.encode(), b"")
+
+
 def bytes_of(lines):
     """Returns the bytes of lines of content."""
     while lines and not lines[-1]:
@@ -118,7 +128,7 @@ def bytes_of(lines):
         if line.startswith("\\pad "):
             found = found.ljust(int(line[5:]))
         elif "\\" in line:
-            found += unescaped(line.encode())
+            found += unescaped(line.encode(), b"\n")
         else:
             found += line.encode() + b"\n"
     return bytes(found)
@@ -158,8 +168,7 @@ def made(words, files):
 
 def run_of(case, line, output):
     told = re.match(r"\$ (.*?)(?: ! ([a-z]+(?: \d+)?))?(?: => (\d+)(?: sha256 ([0-9a-f]{64}))?)?$", line)
-    words = told[1].split(" ") if told[1] else []
-    case.runs.append(Run(case, words, told[2], int(told[3] or 0), told[4], bytes_of(output)))
+    case.runs.append(Run(case, told[1], told[2], int(told[3] or 0), told[4], bytes_of(output)))
 
 
 def take(case, block):

@@ -1,14 +1,11 @@
 // The answer of a run, and its difference from the wanted one.
-use crate::case::Run;
+use crate::case::{Program, Run};
 use modern_files::rewrite_files;
 use outside_folder::{Folder, MemFault, MemFile, MemFolder, MemSink};
-use plan_command::{code_of, run};
-use plan_types::{List, NoMemory, Text};
+use plan_command::run;
+use plan_types::{List, NoMemory};
 use sha2::{Digest, Sha256};
 use std::alloc::Global;
-
-/// The first word of a run of the program `modern-headers`; the others are its lists.
-const MODERN: &str = "modern-headers";
 
 /// The call on the folder and the write that fail, counted from 1 (0: none), the most bytes of a write, and the sink's
 /// room in bytes.
@@ -65,23 +62,22 @@ pub fn answer_over<F: Folder>(
 ) -> Result<CaseAnswer, NoMemory> {
     let fail_at = numbered(alloc, faults.write)?;
     let mut out = MemSink::new(alloc, faults.room, faults.most, fail_at)?;
-    let status = status_of(alloc, &run.words, folder, &mut out);
+    let status = status_of(alloc, run, folder, &mut out);
     let output = text_of(alloc, out.bytes())?;
     Ok(CaseAnswer { status, output })
 }
 
-// Callers of this function know no clause of `run`.
-fn status_of<F: Folder>(
-    alloc: Global,
-    words: &List<Text>,
-    folder: &mut F,
-    out: &mut MemSink,
-) -> u8 {
-    match words.as_slice() {
-        [first, lists @ ..] if first.as_str() == MODERN => {
+// Callers of this function know no clause of `run`. Words that aren't UTF-8 print the usage line, as they do in the
+// programs.
+fn status_of<F: Folder>(alloc: Global, of: &Run, folder: &mut F, out: &mut MemSink) -> u8 {
+    let words = of.words.as_ref().map(|words| words.as_slice());
+    match (of.program, words) {
+        (Program::Planner, Some(words)) => plan_command::code_of(run(alloc, words, folder, out)),
+        (Program::Planner, None) => plan_command::code_of(plan_command::print_usage(out)),
+        (Program::ModernHeaders, Some(lists)) => {
             modern_files::code_of(rewrite_files(alloc, lists, folder, out))
         }
-        words => code_of(run(alloc, words, folder, out)),
+        (Program::ModernHeaders, None) => modern_files::code_of(modern_files::print_usage(out)),
     }
 }
 

@@ -1,15 +1,25 @@
 // A case: the files of a folder, and the runs over it.
-use crate::content::{bytes_of, copied};
+use crate::content::{bytes_of, copied, word_bytes};
 use crate::failing::{Failing, failing_of};
 use crate::short::{push_file, push_short};
 use outside_folder::MemFile;
 use plan_types::{List, NoMemory, Text};
 use std::alloc::Global;
 
-/// A run as written: its words, its faults, and the wanted status and output, with a digest of a long output.
+/// The program of a run. A run of `modern-headers` begins with its name, a run of the planner with its words.
+#[derive(Clone, Copy)]
+pub enum Program {
+    Planner,
+    ModernHeaders,
+}
+
+/// A run as written: its program, its words, its faults, and the wanted status and output, with a digest of a long
+/// output.
 #[derive(Drop)]
 pub struct Run {
-    pub words: List<Text>,
+    pub program: Program,
+    /// None if a word isn't UTF-8.
+    pub words: Option<List<Text>>,
     pub failing: Failing,
     pub status: u8,
     pub digest: Option<String>,
@@ -31,6 +41,8 @@ pub struct Case {
     pub links: Vec<Link>,
     pub runs: Vec<Run>,
 }
+
+const MODERN: &str = "modern-headers";
 
 const MARKS: [&str; 4] = ["--- ", "+ ", "$ ", "# "];
 
@@ -103,12 +115,14 @@ fn run_of(alloc: Global, head: &str, content: &str, above: Option<&Run>) -> Resu
     let (call, end) = head.split_once(" => ").unwrap_or((head, "0"));
     let (words, fault) = call.split_once(" ! ").unwrap_or((call, ""));
     let (status, digest) = end.split_once(" sha256 ").unwrap_or((end, ""));
+    let (program, words) = program_of(words);
     let failing = failing_of(fault);
     let output = match above {
         Some(above) if failing.is_repeated() => copied(alloc, above.output.as_slice())?,
         _ => bytes_of(alloc, content)?,
     };
     Ok(Run {
+        program,
         words: words_of(alloc, words)?,
         failing,
         status: status.parse::<u8>().unwrap_or(u8::MAX),
@@ -117,12 +131,25 @@ fn run_of(alloc: Global, head: &str, content: &str, above: Option<&Run>) -> Resu
     })
 }
 
-fn words_of(alloc: Global, line: &str) -> Result<List<Text>, NoMemory> {
-    let mut words = List::new(alloc);
-    for word in line.split(' ').filter(|word| !word.is_empty()) {
-        words.push(Text::from_str(alloc, word)?)?;
+// The program of a run, and its words as written.
+fn program_of(line: &str) -> (Program, &str) {
+    match line.split_once(' ').unwrap_or((line, "")) {
+        (MODERN, words) => (Program::ModernHeaders, words),
+        _ => (Program::Planner, line),
     }
-    Ok(words)
+}
+
+// The words of a run, or none if one of them isn't UTF-8.
+fn words_of(alloc: Global, line: &str) -> Result<Option<List<Text>>, NoMemory> {
+    let mut words = List::new(alloc);
+    for written in line.split(' ').filter(|word| !word.is_empty()) {
+        let bytes = word_bytes(alloc, written)?;
+        match str::from_utf8(bytes.as_slice()) {
+            Ok(word) => words.push(Text::from_str(alloc, word)?)?,
+            Err(_) => return Ok(None),
+        }
+    }
+    Ok(Some(words))
 }
 
 fn digest_of(alloc: Global, digest: &str) -> Result<Option<String>, NoMemory> {

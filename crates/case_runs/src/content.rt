@@ -1,4 +1,4 @@
-// The bytes of lines of content.
+// The bytes of lines of content, and of words.
 use plan_types::{List, NoMemory};
 use std::alloc::Global;
 
@@ -9,6 +9,13 @@ pub fn bytes_of(alloc: Global, lines: &str) -> Result<List<u8>, NoMemory> {
         push_content(&mut bytes, line)?;
     }
     Ok(List::from_vec(bytes))
+}
+
+/// The bytes of a word, from its written form. A backslash at its end means nothing.
+pub fn word_bytes(alloc: Global, word: &str) -> Result<Vec<u8>, NoMemory> {
+    let mut bytes = Vec::new(alloc);
+    push_escaped(&mut bytes, word.as_bytes())?;
+    Ok(bytes)
 }
 
 /// A copy of the bytes.
@@ -52,7 +59,7 @@ enum Open {
     Digit(u8),
 }
 
-// Appends the bytes of a line, and returns whether it has a line end.
+// Appends the bytes of a line or word, and returns whether no backslash is at its end.
 fn push_escaped(bytes: &mut Vec<u8>, line: &[u8]) -> Result<bool, NoMemory> {
     let mut open = Open::Nothing;
     for byte in line {

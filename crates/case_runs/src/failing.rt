@@ -1,6 +1,6 @@
 // Runs with faults, and runs over truncated files.
 use crate::answer::{CaseAnswer, Faults, answer_over, mem_folder, other_than_wanted, text_of};
-use crate::case::Run;
+use crate::case::{Program, Run};
 use crate::content::copied;
 use outside_folder::MemFile;
 use plan_types::{List, NoMemory};
@@ -249,19 +249,80 @@ fn other_of_cut(
     let first = answer_over(alloc, run, &mut folder, Faults::NONE)?;
     let second = answer_over(alloc, run, &mut folder, Faults::NONE)?;
     let is_same = first.status == second.status && first.output == second.output;
-    if is_same && is_answer(&first) {
+    if is_same && is_answer(run.program, &first) {
         return Ok(None);
     }
     shown(alloc, "with a file that is cut off", &first)
 }
 
-// Whether an answer is a plan, that there is none, or a refusal.
-fn is_answer(found: &CaseAnswer) -> bool {
+// Whether an answer is a plan, that there is none, frames, or a refusal.
+fn is_answer(program: Program, found: &CaseAnswer) -> bool {
     let output = found.output.as_str();
-    match found.status {
-        0 => output.starts_with("plan\n"),
-        1 => output.starts_with("no plan\n"),
-        3 => output.starts_with("refused "),
+    match (program, found.status) {
+        (Program::Planner, 0) => output.starts_with("plan\n"),
+        (Program::Planner, 1) => output.starts_with("no plan\n"),
+        (Program::ModernHeaders, 0) => are_frames(output),
+        (_, 3) => output.starts_with("refused "),
         _ => false,
+    }
+}
+
+// What the next line of frames is.
+#[derive(Clone, Copy)]
+enum Next {
+    /// The first line of a frame, or the end.
+    Frame,
+    /// A change of a file that is rewritten, or the number of its bytes.
+    Change,
+    /// Part of a text: so many bytes of it are left, with the line end behind it.
+    Text(usize),
+    /// No frame has such a line.
+    Nothing,
+}
+
+fn are_frames(output: &str) -> bool {
+    let mut next = Next::Frame;
+    for line in output.split_inclusive('\n') {
+        next = next_of(next, line);
+    }
+    matches!(next, Next::Frame)
+}
+
+fn next_of(next: Next, line: &str) -> Next {
+    match next {
+        Next::Frame => next_in_frame(line),
+        Next::Change => next_of_change(line),
+        Next::Text(left) => next_in_text(left, line.len()),
+        Next::Nothing => Next::Nothing,
+    }
+}
+
+fn next_in_frame(line: &str) -> Next {
+    if line.starts_with("rewritten ") {
+        return Next::Change;
+    }
+    let whole = ["missing ", "unchanged ", "refused "];
+    match whole.iter().any(|word| line.starts_with(*word)) {
+        true => Next::Frame,
+        false => Next::Nothing,
+    }
+}
+
+fn next_of_change(line: &str) -> Next {
+    if line.starts_with("change ") {
+        return Next::Change;
+    }
+    let bytes = line.trim_end_matches('\n').strip_prefix("bytes ");
+    match bytes.map(|bytes| bytes.parse::<u32>()) {
+        Some(Ok(bytes)) => Next::Text((bytes as usize).saturating_add(1)),
+        _ => Next::Nothing,
+    }
+}
+
+fn next_in_text(left: usize, bytes: usize) -> Next {
+    match left.checked_sub(bytes) {
+        None => Next::Nothing,
+        Some(0) => Next::Frame,
+        Some(left) => Next::Text(left),
     }
 }
