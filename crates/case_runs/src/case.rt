@@ -133,9 +133,11 @@ fn run_of(alloc: Global, head: &str, content: &str, above: Option<&Run>) -> Resu
 
 // The program of a run, and its words as written.
 fn program_of(line: &str) -> (Program, &str) {
-    match line.split_once(' ').unwrap_or((line, "")) {
-        (MODERN, words) => (Program::ModernHeaders, words),
-        _ => (Program::Planner, line),
+    let (first, words) = line.split_once(' ').unwrap_or((line, ""));
+    if first == MODERN {
+        (Program::ModernHeaders, words)
+    } else {
+        (Program::Planner, line)
     }
 }
 

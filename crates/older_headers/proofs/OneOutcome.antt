@@ -5,12 +5,13 @@ use Rattle.plan_types.specs.declared.element.Element.{Element}
 use Rattle.plan_types.specs.declared.refusal.Cause.{Cause}
 use Rattle.cabal_lexer.specs.Canonical.{canonical}
 use Rattle.older_layout.specs.OlderTree.{IsOlderTree, IsOlderFault}
+use Rattle.older_fields.specs.Flat.{file_limit}
 use Rattle.older_rules.specs.Modern.{IsModern}
 use Rattle.older_rules.specs.declared.change.Change.{Change}
 use Rattle.older_rules.specs.declared.modern.Modern.{Modern}
 use Rattle.older_headers.specs.declared.answer.Answer.{Answer}
 use Rattle.older_headers.specs.declared.answer.Answer.TheVariants.{Unchanged, Rewritten}
-use Rattle.older_headers.specs.Answers.{IsAnswer, IsMade, IsRefusal, IsRuledOut, IsSaid, IsUnsaid, Says, file_limit}
+use Rattle.older_headers.specs.Answers.{IsAnswer, IsMade, IsRefusal, IsRuledOut, IsSaid, IsUnsaid, Says}
 
 -- ---- the laws of the crates below
 
