@@ -41,7 +41,9 @@ def put_data(folder, cells):
 
 def words_of_cells():
     """Returns the lists of words by whose places a cell's number is read."""
-    return f'"use strict";\nconst VERDICTS = {json.dumps(VERDICTS)}, CHANGES = {json.dumps(CHANGES)}, KINDS = {json.dumps(KINDS)};\n'.encode()
+    lists = {"VERDICTS": VERDICTS, "CHANGES": CHANGES, "KINDS": KINDS}
+    told = ", ".join(f"{name} = {json.dumps(it)}" for name, it in lists.items())
+    return f'"use strict";\nconst {told};\n'.encode()
 
 
 def put_pages(folder, names, nonce):

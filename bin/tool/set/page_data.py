@@ -65,7 +65,8 @@ def node_of(words):
     """Returns a node as in the JSON of a plan."""
     kind, package, component, name, *rest = words
     is_unbuildable = rest[:1] == ["unbuildable"]
-    return {"kind": kind, "package": package, "component": component, "id": name, "unbuildable": is_unbuildable, "needs": rest[is_unbuildable + 1 :]}
+    needs = rest[is_unbuildable + 1 :]
+    return {"kind": kind, "package": package, "component": component, "id": name, "unbuildable": is_unbuildable, "needs": needs}
 
 
 def plan_of(output):

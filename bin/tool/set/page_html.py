@@ -50,7 +50,8 @@ PAGE = """<!doctype html>
 
 def page(nonce, **of):
     """Returns a page with these parts."""
-    return PAGE.format(policy=escape(POLICY.format(nonce)), nonce=nonce, **{key: it if key == "way" else escape(it) for key, it in of.items()})
+    parts = {key: it if key == "way" else escape(it) for key, it in of.items()}
+    return PAGE.format(policy=escape(POLICY.format(nonce)), nonce=nonce, **parts)
 
 
 def index(nonce):

@@ -104,7 +104,11 @@ function middle(items) {
 function place(levels) {
   const stack = (items, wanted) => {
     let end = -Infinity, off = 0;
-    items.forEach((it, at) => { it.y = Math.max(wanted[at], end + it.height / 2); end = it.y + it.height / 2 + GAP; off += it.y - wanted[at]; });
+    items.forEach((it, at) => {
+      it.y = Math.max(wanted[at], end + it.height / 2);
+      end = it.y + it.height / 2 + GAP;
+      off += it.y - wanted[at];
+    });
     for (const it of items) it.y -= off / items.length;
   };
   for (const items of levels) stack(items, items.map((_, at) => at * (HEIGHT + GAP)));
@@ -150,7 +154,8 @@ function pictureOf(roots, nodes) {
     for (const next of it.after) lines.push(line(it, next, widths.get(items)));
   }
   const width = x - WAY + 8, height = bottom - top;
-  const picture = drawn("svg", { width, height, viewBox: `0 ${top} ${width} ${height}`, role: "img", "aria-label": `Picture of the plan: ${told}` }, ...lines, ...boxes);
+  const of = { width, height, viewBox: `0 ${top} ${width} ${height}`, role: "img", "aria-label": `Picture of the plan: ${told}` };
+  const picture = drawn("svg", of, ...lines, ...boxes);
   return [make("p", { class: "note" }, `Left to right: the order of the build. ${told[0].toUpperCase()}${told.slice(1)}.`), legend(),
     make("div", { class: "picture", tabindex: 0 }, picture)];
 }
@@ -165,7 +170,9 @@ function planParts(plan, units) {
   found.push(part("Tree", make("div", { class: "scroll", tabindex: 0 }, treeOf(plan.roots, nodes))));
   found.push(part("Picture", ...pictureOf(plan.roots, nodes)));
   for (const [title, lines] of [["Flags and stanzas", plan.flags], ["Passed over", plan.notes]]) {
-    if (lines.length) found.push(make("details", {}, make("summary", {}, `${title} (${lines.length})`), make("pre", { class: "text", tabindex: 0 }, lines.join("\n"))));
+    if (!lines.length) continue;
+    const text = make("pre", { class: "text", tabindex: 0 }, lines.join("\n"));
+    found.push(make("details", {}, make("summary", {}, `${title} (${lines.length})`), text));
   }
   return found;
 }

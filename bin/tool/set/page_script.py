@@ -145,7 +145,8 @@ function drawKinds() {
     let count = 0;
     for (const row of page.table.rows) count += row.codes.filter(it => it >= 0 && test(it)).length;
     if (!count) continue;
-    const it = make("button", { type: "button", "aria-pressed": "false", class: `kind ${classOf(name)}` }, name, make("span", {}, NUMBERS.format(count)));
+    const of = { type: "button", "aria-pressed": "false", class: `kind ${classOf(name)}` };
+    const it = make("button", of, name, make("span", {}, NUMBERS.format(count)));
     it.addEventListener("click", () => {
       if (!page.kinds.delete(name)) page.kinds.add(name);
       it.setAttribute("aria-pressed", page.kinds.has(name));
@@ -259,7 +260,8 @@ function parsedHash() {
 
 function opened() {
   const [name, version, target, compiler, setting, again] = parsedHash(), dialog = byId("cell");
-  const row = page.table.rows.find(it => it.name === name && it.version === version && it.target === target && it.again === Number(again || 0));
+  const isAsked = it => it.name === name && it.version === version && it.target === target && it.again === Number(again || 0);
+  const row = page.table.rows.find(isAsked);
   const column = page.table.columns.find(it => it[0] === compiler && it[1] === setting);
   if (!row || !column || row.codes[page.table.columns.indexOf(column)] < 0) {
     if (dialog.open) dialog.close();
@@ -294,13 +296,15 @@ function cellOf(data, row, column) {
 
 function reasonOf(text) {
   const isHelp = line => line.startsWith("help:");
-  return make("pre", { class: "text", tabindex: 0 }, ...text.split("\n").map(line => make("span", { class: isHelp(line) ? "help" : false }, line + "\n")));
+  const lines = text.split("\n").map(line => make("span", { class: isHelp(line) ? "help" : false }, line + "\n"));
+  return make("pre", { class: "text", tabindex: 0 }, ...lines);
 }
 
 function cellBody(data, row, column) {
   const cell = cellOf(data, row, column), text = at => (at === undefined ? "" : data.texts[at]);
   const facts = [isWanted(cell.code) ? "wanted" : "not wanted", `status ${cell.status}`, `${cell.seconds} s`];
-  const found = [make("p", { class: "facts" }, make("span", { class: `is ${classOf(verdictOf(cell.code))}` }, ...badge(cell.code)), facts.join(" · "))];
+  const verdict = make("span", { class: `is ${classOf(verdictOf(cell.code))}` }, ...badge(cell.code));
+  const found = [make("p", { class: "facts" }, verdict, facts.join(" · "))];
   if (text(cell.reason)) found.push(part("Reason", reasonOf(text(cell.reason))));
   if (cell.plan !== undefined) found.push(...planParts(data.plans[cell.plan], data.units));
   if (text(cell.output)) found.push(part("Output of the program", make("pre", { class: "text", tabindex: 0 }, text(cell.output))));
@@ -318,10 +322,12 @@ function drawReasons(data) {
     it.push([{ name: data.name, version, target, again }, data.columns[at]]);
   });
   const sorted = [...found].sort((one, other) => other[1].length - one[1].length);
-  const told = sorted.slice(0, MOST_REASONS).map(([reason, cells]) => make("article", {}, make("p", { class: "cells" }, ...cells.flatMap(([row, column]) =>
-    [make("a", { href: hashOf(row, column) }, [row.version, ...column].filter(Boolean).join(" ")), " "])), reasonOf(data.texts[reason])));
+  const link = ([row, column]) => [make("a", { href: hashOf(row, column) }, [row.version, ...column].filter(Boolean).join(" ")), " "];
+  const told = sorted.slice(0, MOST_REASONS).map(([reason, cells]) =>
+    make("article", {}, make("p", { class: "cells" }, ...cells.flatMap(link)), reasonOf(data.texts[reason])));
   const left = sorted.length - told.length;
-  byId("reasons").replaceChildren(make("h2", {}, "Reasons"), ...told, left > 0 ? make("p", {}, `${left} more reasons stand in the cells.`) : "");
+  const rest = left > 0 ? make("p", {}, `${left} more reasons are in the cells.`) : "";
+  byId("reasons").replaceChildren(make("h2", {}, "Reasons"), ...told, rest);
   byId("reasons").hidden = !told.length;
 }
 

@@ -29,13 +29,15 @@ h2 { font-size: 1.15rem; margin: 0; overflow-wrap: anywhere; }
 h3 { font-size: .8rem; margin: 1rem 0 .3rem; color: var(--quiet); font-weight: 600; }
 #summary, .where, .note, .key, #found, .way { color: var(--quiet); margin: .2rem 0; }
 #found { margin: .6rem 0 .4rem; }
-button, input, select { font: inherit; color: inherit; background: var(--card); border: 1px solid var(--line); border-radius: 5px; padding: .25rem .55rem; }
+button, input, select { font: inherit; color: inherit; background: var(--card); border: 1px solid var(--line); border-radius: 5px;
+  padding: .25rem .55rem; }
 button { cursor: pointer; white-space: nowrap; }
 button:hover, .is:hover { border-color: var(--quiet); }
 form { display: flex; flex-wrap: wrap; gap: .6rem .9rem; align-items: end; margin-top: .9rem; }
 label { display: grid; gap: .15rem; color: var(--quiet); font-size: .8rem; }
 label > * { color: var(--text); font-size: 14px; }
-label kbd { position: absolute; margin-left: 3.2rem; font: 11px var(--mono); border: 1px solid var(--line); border-radius: 3px; padding: 0 .3rem; color: var(--quiet); }
+label kbd { position: absolute; margin-left: 3.2rem; font: 11px var(--mono); border: 1px solid var(--line); border-radius: 3px;
+  padding: 0 .3rem; color: var(--quiet); }
 .grow { flex: 1 1 15rem; max-width: 26rem; }
 #kinds { flex: 1 0 100%; display: flex; flex-wrap: wrap; gap: .35rem; }
 .kind { padding: .1rem .5rem; font-size: 13px; }
@@ -53,7 +55,8 @@ tbody th a { color: var(--text); text-decoration: none; }
 tbody th a:hover { text-decoration: underline; }
 tbody th small { color: var(--quiet); margin-left: .5rem; }
 tbody tr:hover > * { background: var(--card); }
-.is { display: inline-block; min-width: 5rem; padding: 1px .5rem; border-radius: 4px; border: 1px solid transparent; text-decoration: none; }
+.is { display: inline-block; min-width: 5rem; padding: 1px .5rem; border-radius: 4px; border: 1px solid transparent;
+  text-decoration: none; }
 td .is { display: block; }
 .is b { font-weight: 600; margin-left: .4rem; padding-left: .4rem; border-left: 1px solid; }
 .is.plan { background: var(--plan); color: var(--on-plan); }
@@ -64,28 +67,31 @@ td .is { display: block; }
 .is.unwanted { background: none; border: 1px dashed var(--line); }
 .is.failed.unwanted { color: var(--on-no); }
 .none { color: var(--quiet); text-align: center; }
-dialog { width: min(72rem, 100vw - 2rem); max-height: calc(100vh - 2rem); padding: 1.1rem 1.25rem; border: 1px solid var(--line); border-radius: 8px;
-  background: var(--card); color: var(--text); overflow: auto; }
+dialog { width: min(72rem, 100vw - 2rem); max-height: calc(100vh - 2rem); padding: 1.1rem 1.25rem; border: 1px solid var(--line);
+  border-radius: 8px; background: var(--card); color: var(--text); overflow: auto; }
 dialog::backdrop { background: #0008; }
 dialog header { display: flex; justify-content: space-between; gap: 1rem; align-items: start; }
 .facts .is { margin-right: .7rem; }
 .key { font: 11px var(--mono); overflow-wrap: anywhere; margin-top: 1rem; }
-pre.text { font: 12.5px/1.5 var(--mono); white-space: pre-wrap; overflow-wrap: anywhere; margin: 0; padding: .6rem .75rem; background: var(--page);
-  border: 1px solid var(--line); border-radius: 5px; max-height: 28rem; overflow: auto; }
+pre.text { font: 12.5px/1.5 var(--mono); white-space: pre-wrap; overflow-wrap: anywhere; margin: 0; padding: .6rem .75rem;
+  background: var(--page); border: 1px solid var(--line); border-radius: 5px; max-height: 28rem; overflow: auto; }
 pre.words { user-select: all; }
 .help { color: var(--on-plan); font-weight: 600; }
 details { margin-top: .9rem; }
 summary { cursor: pointer; color: var(--quiet); font-size: .8rem; font-weight: 600; }
-.scroll, .picture { max-height: 26rem; overflow: auto; border: 1px solid var(--line); border-radius: 5px; background: var(--page); padding: .5rem .75rem; }
+.scroll, .picture { max-height: 26rem; overflow: auto; border: 1px solid var(--line); border-radius: 5px; background: var(--page);
+  padding: .5rem .75rem; }
 .tree, .tree ul { list-style: none; margin: 0; padding: 0; font: 12.5px/1.55 var(--mono); white-space: nowrap; }
 .tree ul { margin-left: .45rem; }
 .tree ul > li { position: relative; padding-left: 1.2rem; border-left: 1px solid var(--line); }
 .tree ul > li:last-child { border-left-color: transparent; }
-.tree ul > li::before { content: ""; position: absolute; left: -1px; top: 0; width: .9rem; height: .75em; border: solid var(--line); border-width: 0 0 1px 1px; }
+.tree ul > li::before { content: ""; position: absolute; left: -1px; top: 0; width: .9rem; height: .75em; border: solid var(--line);
+  border-width: 0 0 1px 1px; }
 .tree .installed { color: var(--quiet); }
 .tree .local { color: var(--on-plan); font-weight: 600; }
 .tree .unbuildable { color: var(--on-no); }
-.legend span { display: inline-block; font-size: 12px; padding: 0 .5rem; margin-right: .4rem; border-radius: 4px; border: 1px solid var(--quiet); }
+.legend span { display: inline-block; font-size: 12px; padding: 0 .5rem; margin-right: .4rem; border-radius: 4px;
+  border: 1px solid var(--quiet); }
 .legend { margin: .3rem 0; }
 .legend .local { background: var(--plan); color: var(--on-plan); border-width: 2px; }
 .legend .store { background: var(--store); color: var(--on-store); }
@@ -108,7 +114,8 @@ svg path { fill: none; stroke: var(--quiet); stroke-width: 1; opacity: .75; }
   thead { position: absolute; width: 1px; height: 1px; overflow: hidden; clip-path: inset(50%); }
   table, tbody, tbody th, td { display: block; }
   table { margin-left: 0; }
-  tbody tr { display: grid; grid-template-columns: repeat(auto-fill, minmax(8.5rem, 1fr)); gap: .3rem .5rem; padding: .5rem 0; border-bottom: 1px solid var(--line); }
+  tbody tr { display: grid; grid-template-columns: repeat(auto-fill, minmax(8.5rem, 1fr)); gap: .3rem .5rem; padding: .5rem 0;
+    border-bottom: 1px solid var(--line); }
   tbody th { grid-column: 1 / -1; position: static; margin: 0; padding: 0; white-space: normal; overflow-wrap: anywhere; font-weight: 600; }
   tbody th, td { border: 0; }
   td { padding: 0; white-space: normal; }
