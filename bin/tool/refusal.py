@@ -27,7 +27,10 @@ UNPRINTABLE = Unprintable()
 
 def escaped(text):
     """Returns a text as one line in which nothing moves the cursor or turns the direction of writing."""
-    return "".join(it.encode("unicode_escape").decode() if is_unprintable(it) else it for it in str(text))
+    line = str(text)
+    if line.isascii() and line.isprintable():
+        return line
+    return "".join(it.encode("unicode_escape").decode() if is_unprintable(it) else it for it in line)
 
 
 def shown(text):

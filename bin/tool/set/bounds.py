@@ -6,13 +6,14 @@ puts the project's own bounds on it aside; and from the verdicts the widest rang
 import re
 
 from tool.folder.index import by_number
-from tool.why.packages import Description
 
 PLANS, UNUSED = "plan", "not in the plan"
 
 
 def asked(files, stock, compiler, setting):
     """Yields the settings for the versions of dependencies, each with the dependency and its version."""
+    from tool.why.packages import Description
+
     found = [Description(text, path) for path, text in files.texts.items()]
     names = sorted({it.name for of in found for it in of.asks if it.kind == "lib"} - files.own)
     for name in names:

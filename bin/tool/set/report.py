@@ -7,7 +7,6 @@ import csv
 import json
 import re
 import sys
-from xml.sax.saxutils import escape, quoteattr
 
 from tool.refusal import escaped, shown
 from tool.set.run import FAILED, VERDICTS
@@ -17,6 +16,9 @@ FORMATS = ("text", "json", "csv", "junit")
 COLUMNS = ("target", "name", "version", "compiler", "setting", "wanted", "verdict", "changed", "status", "seconds")
 # What XML can't have.
 NOT_XML = re.compile("[^\t\n\r\x20-\ud7ff\ue000-\ufffd\U00010000-\U0010ffff]")
+# How XML has its own signs, and in an attribute those that a reader would take for a blank. (`xml.sax.saxutils` loads 40 modules.)
+SIGNS = {"&": "&amp;", "<": "&lt;", ">": "&gt;"}
+IN_TEXT, IN_ATTRIBUTE = map(str.maketrans, (SIGNS, {**SIGNS, '"': "&quot;", "\t": "&#9;", "\n": "&#10;", "\r": "&#13;"}))
 # The text of a reason begins with what can't be chosen together, and the chain of causes.
 INDENT, PARAGRAPHS = "    ", 2
 
@@ -111,11 +113,11 @@ class Csv(Report):
 
 
 def xml(text):
-    return escape(NOT_XML.sub("?", text))
+    return NOT_XML.sub("?", text).translate(IN_TEXT)
 
 
 def attribute(text):
-    return quoteattr(NOT_XML.sub("?", text))
+    return f'"{NOT_XML.sub("?", text).translate(IN_ATTRIBUTE)}"'
 
 
 class Junit(Report):
