@@ -151,14 +151,11 @@ class Reach:
 
     def spread(self, roots, mentions):
         """Returns all names that mentions and records reach. Local names aren't looked up in the index."""
-        found, rest = set(roots), list(roots)
+        found = rest = set(roots)
         while rest:
-            name = rest.pop()
-            of = () if name in self.own else mentions(self.stock.name(name))
-            for it in (*of, *self.units.get(name, ())):
-                if it not in found:
-                    found.add(it)
-                    rest.append(it)
+            of = [mentions(self.stock.name(it)) for it in rest - self.own]
+            rest = set().union(*of, *(self.units.get(it, ()) for it in rest)) - found
+            found = found | rest
         return found
 
     def is_too_much(self):

@@ -41,7 +41,8 @@ class Files:
             found.update(form.rewrite({path: data for path, data in found.items() if path not in FILES}, room))
         self.local, self.links, total = found.pop(LOCAL, b""), {}, hashlib.sha256()
         for path, data in sorted(found.items()):
-            self.links[path] = f"{TARGETS}/{number}/{path}"
+            # (a folder for each of many packages would cost more than its file)
+            self.links[path] = f"{TARGETS}/{number}/{path}" if target.project else f"{TARGETS}/{number}.cabal"
             room.write(self.links[path], data)
             total.update(repr((path, len(data))).encode() + data)
         total.update(self.local)
