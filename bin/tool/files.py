@@ -320,14 +320,22 @@ class Room:
             self.folder("/".join(names[:-1]))
         return f"{self.path}/{path}"
 
+    def _made(self, path, make):
+        """Makes something with a function of its whole path. The folders above it are made only where they are missing."""
+        parts(path)
+        try:
+            return make(f"{self.path}/{path}")
+        except FileNotFoundError:
+            return make(self._place(path))
+
     def write(self, path, content):
         """Writes a file, with the folders above it."""
-        with open(self._place(path), "wb") as file:
+        with self._made(path, lambda it: open(it, "wb")) as file:
             file.write(content.encode() if isinstance(content, str) else content)
 
     def link(self, path, target):
         """Makes a link, with the folders above it."""
-        os.symlink(target, self._place(path))
+        self._made(path, lambda it: os.symlink(target, it))
 
     def allow(self, path):
         """Lets a file be run."""
