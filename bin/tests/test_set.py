@@ -127,7 +127,7 @@ class Cells(Set):
                 self.assertEqual((task["index"] or [], False), (sorted(there), cell.target.package in there))
                 same = whole[cell.target.called, cell.compiler.name, cell.setting.name]
                 self.assertEqual([same[it] for it in ("status", "output", "reason")], [record[it] for it in ("status", "output", "reason")])
-            runner.end()
+            runner.close()
             self.assertEqual([], os.listdir(f"{room}/work/here"))
 
 

@@ -35,6 +35,14 @@ def child(words, **how):
             raise
 
 
+def printed(words, errors, **how):
+    """Runs a program to its end, and returns its status and what it printed. Its standard error goes to a file: to read one
+    pipe costs a third of reading two. If the script is ended, so is the program."""
+    with child(words, stdout=subprocess.PIPE, stderr=errors, bufsize=0, **how) as ran:
+        out = ran.stdout.read()
+    return ran.returncode, out
+
+
 def run(words, timeout=None, **how):
     """Runs a program to its end, as `subprocess.run` does. If the script is ended, so is the program."""
     with child(words, **how) as ran:

@@ -1,5 +1,6 @@
 """`cabal-plan set`: plans many packages with many compilers and settings."""
 
+import contextlib
 import os
 import sys
 
@@ -150,7 +151,8 @@ def only(cells, name):
     if cell is None:
         raise Refusal(f"there is no cell {shown(name)}")
     task = cells.task(cell)
-    ran = children.run([f"{cells.room}/{PROGRAM}", "plan", *task["planning"]], cwd=Runner(cells.room, "hand").folder(task))
+    with contextlib.closing(Runner(cells.room, "hand")) as runner:
+        ran = children.run([f"{cells.room}/{PROGRAM}", "plan", *task["planning"]], cwd=runner.folder(task))
     return status_of_program(ran.returncode)
 
 

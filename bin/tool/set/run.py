@@ -5,12 +5,13 @@ Input: the room of what cells share, and a cell as an object. Output: its record
 import contextlib
 import io
 import json
+import os
 import subprocess
 import time
 
 from tool import children
 from tool.ends import status_of_program
-from tool.files import Room
+from tool.files import Room, scratch
 from tool.folder.project import read_elements
 from tool.planner import NO_PLAN, Answer
 from tool.refusal import Refusal
@@ -36,10 +37,11 @@ def line_of(record):
 
 
 class Runner:
-    """A worker: the room, its own name, and its folder: which it is, and what is there, a link's target or a text's bytes."""
+    """A worker: the room, its own name, and its folder: which it is, and what is there, a link's target or a text's bytes; and the
+    file that gets the program's standard error."""
 
     def __init__(self, path, name):
-        self.room, self.name, self.made, self.there = Room(path), name, 0, {}
+        self.room, self.name, self.made, self.there, self.errors = Room(path), name, 0, {}, scratch(path)
 
     def folder(self, cell):
         """Makes the folder of a cell: its texts, and links to what cells share. The last one is used again, unless it has other
@@ -64,16 +66,29 @@ class Runner:
         self.room.remove(f"{WORK}/{self.name}/{self.made}")
         self.there = {}
 
+    def close(self):
+        """Removes the folder and the file."""
+        self.end()
+        self.errors.close()
+
     def program(self, where, words):
         """Runs the program in a folder."""
         try:
-            ran = children.run(
-                [f"{self.room}/{PROGRAM}", "plan", *words],
-                cwd=where, stdin=subprocess.DEVNULL, stdout=subprocess.PIPE, stderr=subprocess.PIPE,
-            )  # fmt: skip
+            status, out = children.printed([f"{self.room}/{PROGRAM}", "plan", *words], self.errors, cwd=where, stdin=subprocess.DEVNULL)
         except OSError as error:
             raise Refusal(f"the program can't be run: {error.strerror}") from error
-        return status_of_program(ran.returncode), ran.stdout.decode("utf-8", "replace"), ran.stderr.decode("utf-8", "replace")
+        return status_of_program(status), out.decode("utf-8", "replace"), self.told().decode("utf-8", "replace")
+
+    def told(self):
+        """Returns what the program wrote to standard error, and empties the file."""
+        handle = self.errors.fileno()
+        size = os.fstat(handle).st_size
+        if not size:
+            return b""
+        found = os.pread(handle, size, 0)
+        os.truncate(handle, 0)
+        os.lseek(handle, 0, os.SEEK_SET)
+        return found
 
     def record(self, cell):
         """Runs a cell, and returns its record."""

@@ -22,7 +22,7 @@ def work():
         for cell in json.loads(line):
             sys.stdout.buffer.write(line_of(runner.record(cell)))
             sys.stdout.buffer.flush()
-    runner.end()
+    runner.close()
 
 
 def main():
