@@ -218,12 +218,13 @@ class Resumed(Set):
         self.set(status=1)
         whole = self.records()
         shutil.rmtree(f"{self.s}/set.results")
-        slow = self.script("slow", f'#!/bin/sh\nsleep 0.05\nexec {PROGRAM} "$@"\n')
-        # (the program is in the key, so that both runs have the same bytes to compare but for it)
+        # (so slow that each of the ten runs is killed before its end; the program is in the key, so all but that is compared)
+        slow = self.script("slow", f'#!/bin/sh\nsleep 0.3\nexec {PROGRAM} "$@"\n')
         draw = random.Random(75)
         for _ in range(10):
             with subprocess.Popen(self.words(program=slow), cwd=self.s, env=self.environment(), stdout=subprocess.DEVNULL, stderr=subprocess.DEVNULL) as ran:
                 time.sleep(draw.uniform(0.2, 1.0))
+                self.assertIsNone(ran.poll())
                 ran.kill()
         self.run_script(self.words(program=slow), where=self.s)
         # (a worker of a killed run may have written into its room while that was removed: the next run removes the rest)
