@@ -367,6 +367,16 @@ def scratch(within):
     return tempfile.TemporaryFile(dir=within)
 
 
+def taken(file):
+    """Returns what a file of the script's own has, and empties it: what is written next stands at its front."""
+    handle = file.fileno()
+    found = os.pread(handle, os.fstat(handle).st_size, 0)
+    if found:
+        os.ftruncate(handle, 0)
+        os.lseek(handle, 0, os.SEEK_SET)
+    return found
+
+
 @contextlib.contextmanager
 def lock_file(room, name):
     """Opens a file of a room to lock it, and makes it if it is missing. It is a regular file, and no link."""

@@ -5,13 +5,12 @@ Input: the room of what cells share, and a cell as an object. Output: its record
 import contextlib
 import io
 import json
-import os
 import subprocess
 import time
 
 from tool import children
 from tool.ends import status_of_program
-from tool.files import Room, scratch
+from tool.files import Room, scratch, taken
 from tool.folder.project import read_elements
 from tool.planner import NO_PLAN, Answer
 from tool.refusal import Refusal
@@ -77,18 +76,7 @@ class Runner:
             status, out = children.printed([f"{self.room}/{PROGRAM}", "plan", *words], self.errors, cwd=where, stdin=subprocess.DEVNULL)
         except OSError as error:
             raise Refusal(f"the program can't be run: {error.strerror}") from error
-        return status_of_program(status), out.decode("utf-8", "replace"), self.told().decode("utf-8", "replace")
-
-    def told(self):
-        """Returns what the program wrote to standard error, and empties the file."""
-        handle = self.errors.fileno()
-        size = os.fstat(handle).st_size
-        if not size:
-            return b""
-        found = os.pread(handle, size, 0)
-        os.truncate(handle, 0)
-        os.lseek(handle, 0, os.SEEK_SET)
-        return found
+        return status_of_program(status), out.decode("utf-8", "replace"), taken(self.errors).decode("utf-8", "replace")
 
     def record(self, cell):
         """Runs a cell, and returns its record."""
