@@ -13,16 +13,23 @@ PLAIN = {"Eq", "From", "Hash", "Ord", "clause", "for", "impl", "law"}
 
 
 def told_by_calls(*words):
-    """Returns the lines that `bin/calls` prints."""
+    """Returns whether `bin/calls` finds a clause for each call and answer, and the lines that it prints."""
     ran = subprocess.run([f"{TOP}/bin/calls", *words], stdin=subprocess.DEVNULL, stdout=subprocess.PIPE, text=True, check=False)
-    return ran.stdout.split("\n")[:-1]
+    return ran.returncode == 0, ran.stdout.split("\n")[:-1]
 
 
 def calls(page):
-    """Returns the place where the table of public calls isn't what `bin/calls` prints."""
-    wanted = told_by_calls()
+    """Returns the places where the tables of public calls and of other exports aren't what `bin/calls` prints."""
+    are_whole, lines = told_by_calls()
+    end = lines.index("")
+    wrong = [] if are_whole else [page.fails(1, "a call, or an answer of one, has no clause: bin/calls ends with 1")]
+    return wrong + of_table(page, lines[:end]) + of_table(page, lines[end + 1 :])
+
+
+def of_table(page, wanted):
+    """Returns the place where the table with this first line isn't as wanted."""
     if wanted[0] not in page.prose:
-        return [page.fails(1, "it has no table of public calls")]
+        return [page.fails(1, f"it has no table {wanted[0]}")]
     at = page.prose.index(wanted[0])
     end = page.prose.index("", at)
     is_same = page.prose[at:end] == wanted
@@ -35,7 +42,7 @@ def laws(page):
     rows = {}
     for number, crate, row in contract_rows(page):
         rows.setdefault(crate, set()).update(it for name in names(row[2]) for it in re.findall(r"\w+", name))
-    told = [line.split(" ") for line in told_by_calls("--laws")]
+    told = [line.split(" ") for line in told_by_calls("--laws")[1]]
     return [page.fails(1, f"no row on {crate} names its law {law}") for crate, law in told if law not in rows.get(crate, ())]
 
 
