@@ -98,7 +98,7 @@ class Record:
     """The record, to which a run adds each refused edit at once."""
 
     def __enter__(self):
-        os.makedirs(os.path.dirname(RECORD), exist_ok=True)
+        files.make_folder(os.path.dirname(RECORD))
         self.lines = files.Lines(RECORD)
         return self
 
