@@ -1,6 +1,7 @@
 """The wrong bodies of the crates, and the record of those that the prover refused: `out/mistakes.txt` has a line for each, with the date, the
 prover's logic, the sum of the sources that were tried, and that of the edit."""
 
+import contextlib
 import functools
 import hashlib
 import os
@@ -98,7 +99,8 @@ class Record:
     """The record, to which a run adds each refused edit at once."""
 
     def __enter__(self):
-        files.make_folder(os.path.dirname(RECORD))
+        with contextlib.suppress(FileExistsError):
+            files.make_folder(os.path.dirname(RECORD))
         self.lines = files.Lines(RECORD)
         return self
 
