@@ -4,6 +4,7 @@ import io
 import os
 import pty
 import resource
+import select
 import socket
 import sys
 import tarfile
@@ -215,7 +216,10 @@ class Indexes(Room):
                 line = progress.Progress("reads \x1b[31m", 100)
                 line.at(50)
                 line.end()
-            told = os.read(ours, 1000)
+            # What is written to a terminal may come in pieces.
+            told = b""
+            while not told.endswith(progress.CLEAR.encode()) and select.select([ours], [], [], 10)[0]:
+                told += os.read(ours, 1000)
         finally:
             sys.stderr, progress.FIRST = before, first
             os.close(ours)
