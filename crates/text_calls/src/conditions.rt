@@ -1,10 +1,11 @@
 // `tree`: the tree of a condition. `value`, a condition and the known values of the flags `a` and `b`: its value. A run
-// knows all flags or none. `chain`: the value of `flag(a)` followed by this text 100,000 times, with `a` on.
+// knows all flags or none. `chain`: the value of `flag(a)` followed by this text 100,000 times, with `a` on. `paths`: on
+// how many paths a condition is Yes, and on how many No; `many`: so many `flag(a) || flag(b)`, joined by `&&`.
 ghost use Rattle.std.specs.Prelude.{◌≡◌, true, IfOk};
 ghost use Rattle.conditionals.specs.Value.{each_once};
 
 use condition_text::read_cond;
-use conditionals::eval;
+use conditionals::{count_paths, eval};
 use plan_types::{Cond, Env, FlagSet, List, NoMemory, Spec, Text, TextFault, Version};
 use std::alloc::Global;
 use std::test::Fail;
@@ -36,6 +37,21 @@ value flag(a) || flag(b)\t?- => Unknown
 value flag(a) || flag(b)\t?? => Unknown
 chain &&flag(a) => Yes
 chain ||flag(a) => Yes
+paths true => 1 0
+paths false => 0 1
+paths flag(a) => 1 1
+paths !flag(a) => 1 1
+paths os(linux) => 1 0
+paths os(windows) => 0 1
+paths flag(a) && flag(b) => 1 2
+paths flag(a) || flag(b) => 2 1
+paths flag(a) && !flag(a) => 1 2
+paths flag(a) && os(windows) => 0 2
+paths os(windows) && flag(a) => 0 1
+paths (flag(a) || flag(b)) && (flag(c) || flag(d)) => 4 3
+many 63 => 9223372036854775808 9223372036854775807
+many 64 => 18446744073709551615 18446744073709551615
+many 65 => 18446744073709551615 18446744073709551615
 ";
 
 pub fn environment(alloc: Global) -> Result<Env, NoMemory> {
@@ -103,11 +119,32 @@ fn chain(alloc: Global, link: &str) -> Result<String, Fail> {
     value(alloc, text.as_str(), "+?")
 }
 
+fn paths(alloc: Global, text: &str) -> Result<String, Fail> {
+    let cond = condition(alloc, text)?;
+    let env = environment(alloc)?;
+    let (yes, no) = (
+        count_paths(&cond, &env, true),
+        count_paths(&cond, &env, false),
+    );
+    Ok(format!(in alloc; "{yes} {no}")?)
+}
+
+// The numbers of paths are 2^n and 2^n - 1, cut at 2^64 - 1.
+fn many(alloc: Global, count: &str) -> Result<String, Fail> {
+    let mut text = String::from_str(alloc, "true")?;
+    for _ in 0..count.parse::<u32>()? {
+        text.push_str(" && (flag(a) || flag(b))")?;
+    }
+    paths(alloc, text.as_str())
+}
+
 pub fn answer(alloc: Global, case: &str) -> Result<String, Fail> {
     let (call, rest) = case.split_once(' ').ok_or("no text")?;
     match call {
         "tree" => tree(alloc, rest),
         "chain" => chain(alloc, rest),
+        "paths" => paths(alloc, rest),
+        "many" => many(alloc, rest),
         _ => {
             let (text, signs) = rest.split_once('\t').ok_or("no flags")?;
             value(alloc, text, signs)

@@ -5,6 +5,8 @@
 
 pub mod conditions;
 #[cfg(test)]
+mod entries;
+#[cfg(test)]
 mod outlooks;
 #[cfg(test)]
 mod printed;

@@ -1,5 +1,5 @@
 // The tables of calls. They use no contract of the calls.
-use crate::{conditions, outlooks, printed};
+use crate::{conditions, entries, outlooks, printed};
 use call_driver::{CallTable, others};
 use std::alloc::Global;
 use std::process::Abort;
@@ -10,6 +10,7 @@ enum TextTable {
     Printed,
     Conditions,
     Outlooks,
+    Entries,
 }
 
 impl CallTable for TextTable {
@@ -18,6 +19,7 @@ impl CallTable for TextTable {
             TextTable::Printed => printed::CASES,
             TextTable::Conditions => conditions::CASES,
             TextTable::Outlooks => outlooks::CASES,
+            TextTable::Entries => entries::CASES,
         }
     }
 
@@ -26,6 +28,7 @@ impl CallTable for TextTable {
             TextTable::Printed => printed::answer(alloc, call),
             TextTable::Conditions => conditions::answer(alloc, call),
             TextTable::Outlooks => outlooks::answer(alloc, call),
+            TextTable::Entries => entries::answer(alloc, call),
         }
     }
 }
@@ -43,6 +46,7 @@ fn texts_and_conditions(rt: HostRuntime) -> Result<(), Fail> {
         TextTable::Printed,
         TextTable::Conditions,
         TextTable::Outlooks,
+        TextTable::Entries,
     ];
     assert_no_others(&rt, rt.alloc(), &tables)
 }
